@@ -1,0 +1,2 @@
+// Divisions of a line, the marks that they obey, and the cheapest of them.
+pub mod mark;
