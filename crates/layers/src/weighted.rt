@@ -27,7 +27,11 @@ pub impl<L: Loss> Loss for Weighted<L> as WeightedLoss {
             return HEAVIEST + 1;
         }
         let ceiling = u64::from(self.weight) * below;
-        if ceiling > HEAVIEST { HEAVIEST + 1 } else { ceiling }
+        if ceiling > HEAVIEST {
+            HEAVIEST + 1
+        } else {
+            ceiling
+        }
     }
 
     fn stretch(&self, a: u16, b: u16) -> Result<u64, Fault> {
