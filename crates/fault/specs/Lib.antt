@@ -1,2 +1,3 @@
 pub mod Number
+pub mod Refusal
 pub mod Name

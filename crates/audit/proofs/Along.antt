@@ -1,0 +1,116 @@
+-- The walks over the stretches of a division and over the marks: what is told so far, and what is left.
+use mathlib.Core.Path.{_≡_, refl, sym, ap, _∙_}
+use mathlib.Core.List.{List, [], _∷_, _++_, map, append-assoc}
+use mathlib.Core.Bool.{Bool}
+use Prim.Native.Nat.{ℕ, suc, _+_, _-_, _*_, _^_, _≤_, _<_}
+use native.Mathlib.Nat.{mul-le-mul, mul-le-mul-left, mul-add}
+use native.Mathlib.Omega.{arith}
+use lib.ListN.{length, getD, take, drop}
+use Rattle.std.proofs.shelf.Lists.{drop-more, drop-all, take-more, map-push}
+use Rattle.std.proofs.shelf.Ways.{tells}
+use Rattle.std.specs.declared.option.Option.the-variants.{None}
+use Rattle.std.specs.declared.result.Result.{Result}
+use Rattle.std.specs.declared.result.Result.the-variants.{Ok, Err}
+use Rattle.fault.specs.declared.Fault.{Fault}
+use Rattle.loss.specs.Table.{Table, Sound, answer}
+use Rattle.division.specs.Division.{Each-stretch, Division, sum-stretches, loss}
+use Rattle.division.proofs.Listed.{below}
+use Rattle.division.specs.declared.mark.Mark.{Mark}
+use Rattle.division.specs.Marks.{boundaries-in, obeys}
+use Rattle.audit.specs.declared.report.CountedMark.{CountedMark}
+use Rattle.audit.specs.declared.report.PricedStretch.{PricedStretch}
+use Rattle.audit.specs.Priced.{priced, counted, opening-refusal}
+
+-- the stretches up to `start`, the end of the first i, are in `items`, and lose `sum`
+pub record Along (t : Table) (ds : List ℕ) (i start sum : ℕ) (items : List PricedStretch) : Type 0 where
+  pub rises : Each-stretch (λ a b. a < b) (t .length) start (drop i ds)
+  pub rest : items ++ priced (t .loss) (t .length) start (drop i ds) ≡ priced (t .loss) (t .length) 0 ds
+  pub adds : sum + sum-stretches (t .loss) (t .length) start (drop i ds) ≡ loss (t .loss) (t .length) ds
+  pub small : sum ≤ 2 ^ 40 * start
+
+pub begun : (t : Table) (ds : List ℕ) → Division (t .length) ds → Along t ds 0 0 0 []
+begun t ds h = record { rises = h; rest = refl; adds = omega arith; small = omega arith }
+
+-- a stretch of a light loss is answered, and loses no more than 2^40 for each reading
+pub answered : (t : Table) (a b : ℕ) → t .ceiling ≤ 2 ^ 40 → a < b → b ≤ t .length → answer t a b ≡ Ok (t .loss a b)
+answered t a b light ab bn = grind (arith, tells)
+
+pub never-refused : (t : Table) (a b : ℕ) (f : Fault) → t .ceiling ≤ 2 ^ 40 → a < b → b ≤ t .length → Err f ≡ answer t a b → ⊥
+never-refused t a b f light ab bn e = let q = answered t a b light ab bn in let z : _≡_ {A = ℕ} 0 1 = cc in omega arith
+
+pub priced-at : (t : Table) (a b c : ℕ) → t .ceiling ≤ 2 ^ 40 → a < b → b ≤ t .length → Ok c ≡ answer t a b → c ≡ t .loss a b
+priced-at t a b c light ab bn e = let q = answered t a b light ab bn in cc
+
+pub stretch-bound : (t : Table) → Sound t → (a b : ℕ) → t .ceiling ≤ 2 ^ 40 → a < b → b ≤ t .length → 2 ^ 40 * a + t .loss a b ≤ 2 ^ 40 * b
+stretch-bound t sound a b light ab bn =
+    let u = sound .under a b light ab bn in
+    let v : t .ceiling * (b - a) ≤ 2 ^ 40 * (b - a) = mul-le-mul light (omega arith) in
+    let e : b ≡ a + (b - a) = omega arith in
+    let w : 2 ^ 40 * b ≡ 2 ^ 40 * a + 2 ^ 40 * (b - a) = ap (λ (n : ℕ). 2 ^ 40 * n) e ∙ mul-add (2 ^ 40) a (b - a) in
+    omega (arith, u, v, w)
+
+-- the next stretch lies within the line
+pub next-rises : (t : Table) (ds : List ℕ) (i start sum : ℕ) (items : List PricedStretch) → i < length ds → Along t ds i start sum items → (start < getD ds i 0) × Each-stretch (λ a b. a < b) (t .length) (getD ds i 0) (drop (i + 1) ds)
+next-rises t ds i start sum items h l = rw (drop-more ds i 0 h) at (l .rises)
+
+pub next-within : (t : Table) (ds : List ℕ) (i start sum : ℕ) (items : List PricedStretch) → i < length ds → Along t ds i start sum items → getD ds i 0 ≤ t .length
+next-within t ds i start sum items h l = omega (arith, below (t .length) (getD ds i 0) (drop (i + 1) ds) (next-rises t ds i start sum items h l .1))
+
+abbrev stretch-of : ℕ → ℕ → ℕ → PricedStretch
+stretch-of a b c = record { start = a; end = b; loss = c }
+
+pub again :
+    (t : Table) (ds : List ℕ) (i start sum : ℕ) (items : List PricedStretch) (c : ℕ) → Sound t → t .ceiling ≤ 2 ^ 40 → i < length ds → Along t ds i start sum items → Ok c ≡ answer t start (getD ds i 0) →
+    Along t ds (i + 1) (getD ds i 0) (sum + c) (items ++ stretch-of start (getD ds i 0) c ∷ [])
+again t ds i start sum items c sound light h l e =
+    let r = next-rises t ds i start sum items h l in
+    let w = next-within t ds i start sum items h l in
+    let d = getD ds i 0 in
+    let q : c ≡ t .loss start d = priced-at t start d c light (r .0) w e in
+    let m = drop-more ds i 0 h in
+    record {
+      rises = r .1;
+      rest =
+          append-assoc items (stretch-of start d c ∷ []) (priced (t .loss) (t .length) d (drop (i + 1) ds))
+          ∙ ap (λ (x : ℕ). items ++ stretch-of start d x ∷ priced (t .loss) (t .length) d (drop (i + 1) ds)) q
+          ∙ rw m at (l .rest);
+      adds = let k = rw m at (l .adds) in omega (arith, q, k);
+      small = omega (arith, q, l .small, stretch-bound t sound start d light (r .0) w);
+    }
+
+-- past the last gap the last stretch is left
+pub last-rises : (t : Table) (ds : List ℕ) (i start sum : ℕ) (items : List PricedStretch) → length ds ≤ i → Along t ds i start sum items → start < t .length
+last-rises t ds i start sum items h l = rw (drop-all i ds h) at (l .rises)
+
+pub ended :
+    (t : Table) (ds : List ℕ) (i start sum : ℕ) (items : List PricedStretch) (b c : ℕ) → Sound t → t .ceiling ≤ 2 ^ 40 → length ds ≤ i → Along t ds i start sum items → b ≡ t .length → Ok c ≡ answer t start b →
+    (items ++ stretch-of start b c ∷ [] ≡ priced (t .loss) (t .length) 0 ds) × (sum + c ≡ loss (t .loss) (t .length) ds) × (sum + c ≤ 2 ^ 40 * t .length)
+ended t ds i start sum items b c sound light h l e a =
+    let lt = last-rises t ds i start sum items h l in
+    let q : c ≡ t .loss start b = priced-at t start b c light (omega (arith, e)) (omega (arith, e)) a in
+    let last : c ≡ t .loss start (t .length) = q ∙ ap (t .loss start) e in
+    let k = rw (drop-all i ds h) at (l .adds) in (
+      ap (λ (x : ℕ). items ++ stretch-of start b x ∷ []) last ∙ ap (λ (x : ℕ). items ++ stretch-of start x (t .loss start (t .length)) ∷ []) e ∙ rw (drop-all i ds h) at (l .rest),
+      omega (arith, last, k),
+      omega (arith, last, l .small, stretch-bound t sound start (t .length) light lt (omega arith)),
+    )
+
+-- a division has fewer boundaries than the line has readings
+pub few-boundaries : (n a : ℕ) (ds : List ℕ) → Each-stretch (λ a b. a < b) n a ds → a + length ds < n
+few-boundaries n a [] h = omega arith
+few-boundaries n a (b ∷ ds) h = omega (arith, h .0, few-boundaries n b ds (h .1))
+
+pub penalties-bound : (p n : ℕ) (ds : List ℕ) → p ≤ 2 ^ 49 → n ≤ 512 → Division n ds → p * length ds ≤ 2 ^ 49 * 511
+penalties-bound p n ds h few d = let l : length ds ≤ 511 = omega (arith, few-boundaries n 0 ds d) in mul-le-mul h l
+
+-- what an opened line tells of its loss
+pub opened : (t : Table) → opening-refusal t ≡ None → (t .ceiling ≤ 2 ^ 40) × (t .length ≤ 512)
+opened t h = (grind (arith, tells), grind (arith, tells))
+
+-- one mark more
+pub counted-more :
+    (ds : List ℕ) (ms : List Mark) (i : ℕ) (d : Mark) (items : List CountedMark) (b : ℕ) (o : Bool) → i < length ms → items ≡ map (counted ds) (take i ms) → b ≡ boundaries-in (getD ms i d) ds → o ≡ obeys ds (getD ms i d) →
+    items ++ record { mark = getD ms i d; boundaries = b; obeyed = o } ∷ [] ≡ map (counted ds) (take (i + 1) ms)
+counted-more ds ms i d items b o h e eb eo =
+    let m : map (counted ds) (take (i + 1) ms) ≡ map (counted ds) (take i ms) ++ counted ds (getD ms i d) ∷ [] = ap (map (counted ds)) (take-more ms i d h) ∙ map-push (counted ds) (take i ms) (getD ms i d) in
+    cc
