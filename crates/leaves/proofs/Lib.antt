@@ -4,4 +4,5 @@ pub mod Middle
 pub mod Most
 pub mod Grown
 pub mod Admission
-pub mod Told
+pub mod ManyReadings
+pub mod Answered

@@ -13,14 +13,9 @@ use Rattle.std.proofs.shelf.Ways.{tells, leb-tells}
 use Rattle.std.proofs.shelf.Lists.{take-append-drop, take-take, drop-take, take-map, drop-map, take-more, length-take, length-drop, getD-take, getD-drop}
 use Rattle.std.proofs.shelf.Elements.{all-map}
 use Rattle.std.specs.shelf.Lists.{All}
-use Rattle.std.specs.declared.result.Result.{Result}
-use Rattle.std.specs.declared.result.Result.the-variants.{Ok, Err}
-use Rattle.fault.specs.declared.Fault.{Fault}
-use Rattle.fault.specs.declared.Fault.the-variants.{BadStretch}
 use Rattle.leaves.specs.Readings.{cost-at, Least, least-of, Rising, stretch-of, loss-of}
 use Rattle.leaves.specs.LeastLevel.{least-of-all, least-is-one, nearer}
 use Rattle.leaves.specs.Soundness.{length-held}
-use Rattle.loss.specs.Table.{Table, answer}
 use Rattle.leaves.specs.Kept.{placed, sum-of, apart, cost, Before, Low, held}
 
 pub sum-append : {A : Type 0} (f : A → ℕ) (xs ys : List A) → sum-of f (xs ++ ys) ≡ sum-of f xs + sum-of f ys
@@ -95,13 +90,6 @@ pub loss-of-is :
     (g : ℕ → ℕ) → Rising g → (lo : ℤ) (len : ℕ) (us : List ℕ) (a b : ℕ) → a ≤ b → b ≤ len → (v : ℕ) → ((k : ℕ) → cost g (stretch-of us a b) v ≤ cost g (stretch-of us a b) k) →
     loss-of g (held lo len us) a b ≡ cost g (stretch-of us a b) v
 loss-of-is g rises lo len us a b ab bl v best = ap (least-of g) (part-held lo len us a b ab bl) ∙ loss-is g rises lo (stretch-of us a b) v best
-
--- an answer that is given, and one that is refused
-pub given : (l : Table) (a b t : ℕ) → l .ceiling ≤ 2 ^ 40 → a < b → b ≤ l .length → t ≡ l .loss a b → Ok t ≡ answer l a b
-given l a b t low ab bn e = grind (arith, tells)
-
-pub refused : (l : Table) (a b : ℕ) → l .ceiling ≤ 2 ^ 40 → (a < b → b ≤ l .length → ⊥) → Err BadStretch ≡ answer l a b
-refused l a b low never = grind (arith, tells)
 
 -- a level that the costs fall to, and rise from
 module _ (c : ℕ → ℕ) (v : ℕ) (up : (k : ℕ) → v ≤ k → c k ≤ c (suc k)) (down : (k : ℕ) → k < v → c (suc k) ≤ c k) where

@@ -1,6 +1,7 @@
 // Losses that hold readings of their own: by squares, by distances and by votes.
 pub mod admit;
 pub mod distances;
+pub mod gather;
 pub mod model;
 pub mod squares;
 pub mod theorems;

@@ -8,7 +8,7 @@ use Rattle.leaves.specs.Soundness.{length-held}
 use Rattle.leaves.specs.Readings.{lowest, square, table-of}
 use Rattle.leaves.specs.Held.{squares-readings}
 use Rattle.leaves.proofs.Mean.{found, Found}
-use Rattle.leaves.proofs.Parts.{given}
+use Rattle.leaves.proofs.Answered.{answer-is}
 use Rattle.leaves.proofs.squares.methods.SquaresLoss.stretch.Needs as need
 
 pub sub-s : need.sub-s
@@ -54,6 +54,6 @@ pub returns : need.returns
 returns c =
     let x = c .args .self .now in
     let f = found lowest (x .len) (x .items) (x .sums) (x .squares) (x .few) (x .room) (x .low) (x .adds) (x .powers) (c .args .a) (c .args .b) (c .if-a-b .left) (c .if-to-self .left) in
-    given (table-of square (2 ^ 32) (squares-readings x)) (c .args .a) (c .args .b) _ (omega arith) (c .if-a-b .left)
+    answer-is (table-of square (2 ^ 32) (squares-readings x)) (c .args .a) (c .args .b) _ (omega arith) (c .if-a-b .left)
     (omega (arith, length-held lowest (x .len) (x .items) (omega (arith, x .few, x .room)), c .if-to-self .left))
     (omega (arith, f .value (c .nearest-level-v .result) (c .nearest-level-v .ensures .value)))

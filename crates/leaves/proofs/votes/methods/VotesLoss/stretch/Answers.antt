@@ -6,7 +6,7 @@ use lib.IntN.{pos}
 use Rattle.leaves.specs.Soundness.{length-held}
 use Rattle.leaves.specs.Readings.{differs, table-of}
 use Rattle.leaves.specs.Held.{votes-readings}
-use Rattle.leaves.proofs.Parts.{given}
+use Rattle.leaves.proofs.Answered.{answer-is}
 use Rattle.leaves.proofs.Most.{rows-rise, most-is}
 use Rattle.leaves.proofs.votes.methods.VotesLoss.stretch.Needs as need
 
@@ -30,6 +30,6 @@ pub returns : need.returns
 returns c =
     let x = c .args .self .now in
     let t = most-is (pos 0) (x .len) (x .items) (x .counts) (x .room) (x .few) (x .low) (x .tallied) (c .args .a) (c .args .b) (c .if-a-b .left) (c .if-to-self .left) (c .most-votes-most .result) (c .most-votes-most .ensures .top) (c .most-votes-most .ensures .reached) .1 in
-    given (table-of differs 1 (votes-readings x)) (c .args .a) (c .args .b) (c .from .result) (omega arith) (c .if-a-b .left)
+    answer-is (table-of differs 1 (votes-readings x)) (c .args .a) (c .args .b) (c .from .result) (omega arith) (c .if-a-b .left)
     (omega (arith, length-held (pos 0) (x .len) (x .items) (omega (arith, x .few, x .room)), c .if-to-self .left))
     (c .from .ensures ∙ t)
