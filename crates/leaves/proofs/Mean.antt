@@ -6,12 +6,13 @@ use Prim.Native.Nat.{ℕ, zero, suc, _+_, _-_, _*_, _^_, _/_, _%_, _≤_, _<_}
 use native.Mathlib.Nat.{mul-one, mul-suc, suc-mul, mul-add, mul-assoc, mul-zero, zero-mul, mul-le-mul, mul-le-mul-left, div-add-mod, mod-lt}
 use native.Mathlib.Omega.{arith}
 use lib.ListN.{length, getD, take}
-use lib.IntN.{ℤ}
 use Rattle.std.proofs.shelf.Ways.{leb-tells}
 use Rattle.std.proofs.shelf.Lists.{length-take, take-all}
-use Rattle.leaves.specs.Readings.{square, loss-of, stretch-of}
+use Rattle.leaves.specs.declared.squares.Squares.{Squares}
+use Rattle.leaves.specs.Held.{squares-readings}
+use Rattle.leaves.specs.Readings.{lowest, square, loss-of, stretch-of}
 use Rattle.leaves.specs.LeastLevel.{rising-square}
-use Rattle.leaves.specs.Kept.{sum-of, apart, cost, itself, squared, nearest, Before, Low, held}
+use Rattle.leaves.specs.Kept.{sum-of, apart, cost, itself, squared, nearest, Before, Low}
 use native.Mathlib.Numerals.{add-one}
 use Rattle.leaves.proofs.Parts.{sum-part, sum-more, length-part, loss-of-is, valley, low-part}
 
@@ -105,15 +106,6 @@ square-small u t = let p : u * u ≤ 65535 * 65535 = mul-le-mul t t in omega ari
 pub squares-fit : (len : ℕ) (us ss : List ℕ) → len ≤ length us → Low 65535 len us → Before squared len us ss → (b : ℕ) → b ≤ len → getD ss b 0 ≤ b * 4294836225
 squares-fit len us ss room low h b bl = omega (arith, h b bl, sum-small squared 4294836225 len us (λ u t. square-small u t) low b bl (omega arith))
 
--- all that the code of a stretch rests on
-pub record Found (lo : ℤ) (len : ℕ) (us ss qs : List ℕ) (a b : ℕ) : Type 0 where
-  pub sums : getD ss a 0 ≤ getD ss b 0
-  pub squares : getD qs a 0 ≤ getD qs b 0
-  pub sum-low : getD ss b 0 - getD ss a 0 ≤ (b - a) * 65535
-  pub square-low : getD qs b 0 - getD qs a 0 ≤ 512 * 4294836225
-  pub value : (v : ℕ) → v ≡ nearest (getD ss b 0 - getD ss a 0) (b - a)
-      → loss-of square (held lo len us) a b + 2 * v * (getD ss b 0 - getD ss a 0) ≡ getD qs b 0 - getD qs a 0 + (b - a) * v * v
-
 part-small : (len : ℕ) (us : List ℕ) → len ≤ length us → Low 65535 len us → (a b : ℕ) → b ≤ len → sum-of itself (stretch-of us a b) ≤ (b - a) * 65535
 part-small len us room low a b bl =
     let ys = stretch-of us a b in
@@ -122,24 +114,41 @@ part-small len us room low a b bl =
     let e : take (length ys) ys ≡ ys = take-all (length ys) ys (omega arith) in
     omega (arith, ap (sum-of itself) e, s, n)
 
-pub found : (lo : ℤ) (len : ℕ) (us ss qs : List ℕ) → len ≤ 512 → length us ≡ 512 → Low 65535 len us → Before itself len us ss → Before squared len us qs → (a b : ℕ) → a < b → b ≤ len
-    → Found lo len us ss qs a b
-found lo len us ss qs few room low hs hq a b ab bl =
+-- all that the code of a stretch rests on
+pub record Found (x : Squares) (a b : ℕ) : Type 0 where
+  pub sums : getD (x .sums) a 0 ≤ getD (x .sums) b 0
+  pub squares : getD (x .squares) a 0 ≤ getD (x .squares) b 0
+  pub sum-low : getD (x .sums) b 0 - getD (x .sums) a 0 ≤ (b - a) * 65535
+  pub square-low : getD (x .squares) b 0 - getD (x .squares) a 0 ≤ 512 * 4294836225
+  pub value : (v : ℕ) → v ≡ nearest (getD (x .sums) b 0 - getD (x .sums) a 0) (b - a)
+      → loss-of square (squares-readings x) a b + 2 * v * (getD (x .sums) b 0 - getD (x .sums) a 0) ≡ getD (x .squares) b 0 - getD (x .squares) a 0 + (b - a) * v * v
+
+pub found : (x : Squares) (a b : ℕ) → a < b → b ≤ x .len → Found x a b
+found x a b ab bl =
     let n = b - a in
+    let us = x .items in
+    let room = x .room in
+    let few = x .few in
     let ys = stretch-of us a b in
     let long = length-part us a b (omega arith) in
+    let ds = getD (x .sums) b 0 - getD (x .sums) a 0 in
+    let dq = getD (x .squares) b 0 - getD (x .squares) a 0 in
     let s = sum-part itself us a b (omega arith) in
     let q = sum-part squared us a b (omega arith) in
-    let es : getD ss b 0 - getD ss a 0 ≡ sum-of itself ys = omega (arith, s, hs a (omega arith), hs b bl) in
-    let eq : getD qs b 0 - getD qs a 0 ≡ sum-of squared ys = omega (arith, q, hq a (omega arith), hq b bl) in
+    let sa = x .adds a (omega arith) in
+    let sb = x .adds b bl in
+    let qa = x .powers a (omega arith) in
+    let qb = x .powers b bl in
+    let es : ds ≡ sum-of itself ys = omega arith in
+    let eq : dq ≡ sum-of squared ys = omega arith in
     record {
-      sums = omega (arith, s, hs a (omega arith), hs b bl);
-      squares = omega (arith, q, hq a (omega arith), hq b bl);
-      sum-low = omega (arith, es, part-small len us (omega arith) low a b bl);
-      square-low = omega (arith, squares-fit len us qs (omega arith) low hq b bl);
+      sums = omega arith;
+      squares = omega arith;
+      sum-low = omega (arith, es, part-small (x .len) us (omega arith) (x .low) a b bl);
+      square-low = omega (arith, squares-fit (x .len) us (x .squares) (omega arith) (x .low) (x .powers) b bl);
       value = λ v e.
-          let way : near (getD ss b 0 - getD ss a 0) n v = rw e (nearest-near (getD ss b 0 - getD ss a 0) n) in
-          let t = loss-of-is square rising-square lo len us a b (omega arith) bl v (near-best ys n (getD ss b 0 - getD ss a 0) v (sym long) es (omega arith) way) in
-          let c : cost square ys v + (v * (getD ss b 0 - getD ss a 0) + v * (getD ss b 0 - getD ss a 0)) ≡ (getD qs b 0 - getD qs a 0) + n * (v * v) = rw (es, eq) (closed ys v ∙ ap (λ (z : ℕ). sum-of squared ys + z * (v * v)) long) in
-          omega (arith, t, c, mul-assoc n v v, mul-assoc 2 v (getD ss b 0 - getD ss a 0));
+          let way : near ds n v = rw e (nearest-near ds n) in
+          let t = loss-of-is square rising-square lowest (x .len) us a b (omega arith) bl v (near-best ys n ds v (sym long) es (omega arith) way) in
+          let c : cost square ys v + (v * ds + v * ds) ≡ dq + n * (v * v) = rw (es, eq) (closed ys v ∙ ap (λ (z : ℕ). sum-of squared ys + z * (v * v)) long) in
+          omega (arith, t, c, mul-assoc n v v, mul-assoc 2 v ds);
     }

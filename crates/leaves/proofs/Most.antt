@@ -5,11 +5,13 @@ use mathlib.Core.List.{List, [], _∷_}
 use Prim.Native.Nat.{ℕ, zero, suc, _+_, _-_, _*_, _≤_, _<_, min}
 use native.Mathlib.Omega.{arith}
 use lib.ListN.{length, getD}
-use lib.IntN.{ℤ}
+use lib.IntN.{pos}
 use Rattle.std.proofs.shelf.Ways.{leb-tells, tells}
 use Rattle.leaves.specs.Readings.{differs, loss-of, stretch-of}
 use Rattle.leaves.specs.LeastLevel.{rising-differs}
-use Rattle.leaves.specs.Kept.{sum-of, apart, cost, hit, Low, Counts, held}
+use Rattle.leaves.specs.Kept.{sum-of, apart, cost, hit, Low}
+use Rattle.leaves.specs.Held.{votes-readings}
+use Rattle.leaves.specs.declared.votes.Votes.{Votes}
 use Rattle.leaves.proofs.Parts.{sum-part, length-part, low-part, loss-of-is}
 
 one : (u k : ℕ) → differs (apart k u) + hit k u ≡ 1
@@ -34,20 +36,24 @@ most-best us v m low e top k =
     ]
 
 -- all that the code of a stretch rests on
-module _ (lo : ℤ) (len : ℕ) (us : List ℕ) (rows : List (List ℕ)) (room : length us ≡ 512) (few : len ≤ 512) (low : Low 15 len us) (h : Counts len us rows) (a b : ℕ) (ab : a < b) (bl : b ≤ len) where
-  between : (k : ℕ) → getD (getD rows b []) k 0 ≡ getD (getD rows a []) k 0 + sum-of (hit k) (stretch-of us a b)
-  between k = omega (arith, h b k bl, h a k (omega arith), sum-part (hit k) us a b (omega arith))
+module _ (x : Votes) (a b : ℕ) (ab : a < b) (bl : b ≤ x .len) where
+  in-stretch : (k : ℕ) → getD (getD (x .counts) b []) k 0 ≡ getD (getD (x .counts) a []) k 0 + sum-of (hit k) (stretch-of (x .items) a b)
+  in-stretch k = omega (arith, x .tallied b k bl, x .tallied a k (omega arith), sum-part (hit k) (x .items) a b (omega arith))
 
-  pub rows-rise : (k : ℕ) → getD (getD rows a []) k 0 ≤ getD (getD rows b []) k 0
-  rows-rise k = omega (arith, between k)
+  pub rows-rise : (k : ℕ) → getD (getD (x .counts) a []) k 0 ≤ getD (getD (x .counts) b []) k 0
+  rows-rise k = omega (arith, in-stretch k)
 
-  module _ (m : ℕ) (top : (k : ℕ) → k < 16 → getD (getD rows b []) k 0 ≤ getD (getD rows a []) k 0 + m) (reached : (k : ℕ) × (k < 16) × (getD (getD rows b []) k 0 ≡ getD (getD rows a []) k 0 + m)) where
-    pub most-is : (m ≤ b - a) × (b - a - m ≡ loss-of differs (held lo len us) a b)
-    most-is =
-        let ys = stretch-of us a b in
-        let v = reached .0 in
-        let e : m ≡ sum-of (hit v) ys = omega (arith, reached .2, between v) in
-        let n = length-part us a b (omega arith) in
-        let best = most-best ys v m (low-part 15 len us a b bl (omega arith) low) e (λ k t. omega (arith, top k t, between k)) in
-        let t = loss-of-is differs rising-differs lo len us a b (omega arith) bl v best in
-        (omega (arith, e, n, rest ys v), omega (arith, e, n, rest ys v, t))
+  pub most-is :
+      (m : ℕ) → ((k : ℕ) → k < 16 → getD (getD (x .counts) b []) k 0 ≤ getD (getD (x .counts) a []) k 0 + m) → (k : ℕ) × (k < 16) × (getD (getD (x .counts) b []) k 0 ≡ getD (getD (x .counts) a []) k 0 + m) →
+      (m ≤ b - a) × (b - a - m ≡ loss-of differs (votes-readings x) a b)
+  most-is m top reached =
+      let us = x .items in
+      let room = x .room in
+      let few = x .few in
+      let ys = stretch-of us a b in
+      let v = reached .0 in
+      let e : m ≡ sum-of (hit v) ys = omega (arith, reached .2, in-stretch v) in
+      let n = length-part us a b (omega arith) in
+      let best = most-best ys v m (low-part 15 (x .len) us a b bl (omega arith) (x .low)) e (λ k t. omega (arith, top k t, in-stretch k)) in
+      let t = loss-of-is differs rising-differs (pos 0) (x .len) us a b (omega arith) bl v best in
+      (omega (arith, e, n, rest ys v), omega (arith, e, n, rest ys v, t))

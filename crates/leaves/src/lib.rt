@@ -4,5 +4,7 @@ pub mod distances;
 pub mod gather;
 pub mod model;
 pub mod squares;
+#[cfg(test)]
+mod tests;
 pub mod theorems;
 pub mod votes;

@@ -1,4 +1,4 @@
-// Readings of 16 bits. A stretch loses the least sum of squares about one whole level.
+// Readings from -32768 to 32767. A stretch loses the least sum of squares of their distances from one whole level.
 ghost use mathlib.Core.Path.{_≡_};
 ghost use Prim.Native.Nat.{_≤_};
 ghost use lib.ListN.{length};

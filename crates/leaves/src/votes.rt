@@ -1,4 +1,4 @@
-// Readings that are codes of classes, 0 to 15. A stretch loses the number of readings that differ from one class.
+// Readings that are codes of classes, 0 to 15. A stretch loses the least number of readings that differ from one class.
 ghost use mathlib.Core.Path.{_≡_};
 ghost use Prim.Native.Nat.{_≤_};
 ghost use lib.ListN.{length};
@@ -6,7 +6,7 @@ ghost use Rattle.leaves.specs.Kept.{Low, Counts, Wide};
 
 pub mod methods;
 
-// Each code, with how many of each class stand before it.
+// Each code, and for each place how many readings of each class stand before it.
 #[derive(Drop)]
 pub struct Votes {
     len: usize,

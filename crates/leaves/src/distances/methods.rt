@@ -17,6 +17,7 @@ use fault::Fault;
 use loss::model::Loss;
 
 impl Distances {
+    // No readings.
     pub fn new() -> Distances
         ensures { λ r. ⌜ distances-readings r ≡ [] ⌝ }
     {

@@ -16,6 +16,7 @@ use fault::Fault;
 use loss::model::Loss;
 
 impl Squares {
+    // No readings.
     pub fn new() -> Squares
         ensures { λ r. ⌜ squares-readings r ≡ [] ⌝ }
     {
@@ -55,6 +56,7 @@ pub impl Leaf for Squares as SquaresLeaf {
     }
 }
 
+// The whole level nearest to the mean s / n: no level costs less.
 fn nearest_level(s: u64, n: u64) -> u64
     requires { ⌜ 0 < n ⌝ ∗ ⌜ n ≤ 512 ⌝ ∗ ⌜ s ≤ n * 65535 ⌝ }
     ensures value { λ r. ⌜ r ≡ nearest s n ⌝ }

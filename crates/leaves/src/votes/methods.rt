@@ -15,6 +15,7 @@ use fault::Fault;
 use loss::model::Loss;
 
 impl Votes {
+    // No readings.
     pub fn new() -> Votes
         ensures { λ r. ⌜ votes-readings r ≡ [] ⌝ }
     {
@@ -53,7 +54,7 @@ pub impl Leaf for Votes as VotesLeaf {
     }
 }
 
-// The most that one class has between two counts.
+// The most readings that one class has between two places, from the counts before each.
 fn most_votes(before: &[u16], after: &[u16]) -> u16
     requires { ⌜ length (now before) ≡ 16 ⌝ ∗ ⌜ length (now after) ≡ 16 ⌝ ∗ ⌜ ((k : ℕ) → k < 16 → getD (now before) k 0 ≤ getD (now after) k 0) ⌝ }
     ensures top { λ r. ⌜ ((k : ℕ) → k < 16 → getD (now (after .entry)) k 0 ≤ getD (now (before .entry)) k 0 + r) ⌝ }

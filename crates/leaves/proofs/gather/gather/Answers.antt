@@ -10,6 +10,7 @@ use mir.Val.{SFits}
 use Rattle.std.proofs.shelf.Lists.{take-all}
 use Rattle.std.proofs.shelf.Signed.{toZ-ofZ}
 use Rattle.loss.specs.Table.{Table}
+use Rattle.leaves.specs.Taking.{after}
 use Rattle.leaves.proofs.ManyReadings.{next-taken, none-refused, all-taken}
 use Rattle.leaves.proofs.gather.gather.Needs as need
 
@@ -31,7 +32,8 @@ loop-x-again g c =
     let fits : SFits w32 (getD xs i (pos 0)) = search needs in
     let room : length was + length xs ≤ 512 = omega (arith, ap (λ (t : Table). t .length) (g .L·Leaf·met .tied (c .args .leaf .now))) in
     let h = simp toZ-ofZ at (c .push .ensures .holds) in
-    h ∙ next-taken (g .L·Leaf .lo) (g .L·Leaf .span) xs was (sym (c .if-not-accepts-all .ensures tt)) room i (c .loop-x-test .taken) (g .L·Leaf .readings (c .loop-x .leaf)) (c .loop-x .inv)
+    _∙_ {b = after (g .L·Leaf .lo) (g .L·Leaf .span) (g .L·Leaf .readings (c .loop-x .leaf)) (getD xs i (pos 0))} h
+    (next-taken (g .L·Leaf .lo) (g .L·Leaf .span) xs was (sym (c .if-not-accepts-all .ensures tt)) room i (c .loop-x-test .taken) (g .L·Leaf .readings (c .loop-x .leaf)) (c .loop-x .inv))
 
 pub returns : need.returns
 returns g c =
