@@ -1,0 +1,10 @@
+// Losses that hold readings of their own: by squares, by distances and by votes.
+pub mod admit;
+pub mod distances;
+pub mod gather;
+pub mod model;
+pub mod squares;
+#[cfg(test)]
+mod tests;
+pub mod theorems;
+pub mod votes;
