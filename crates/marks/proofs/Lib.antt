@@ -1,0 +1,4 @@
+pub mod Nth
+pub mod Order
+pub mod Parts
+pub mod Pass
