@@ -3,3 +3,4 @@ pub mod lent;
 pub mod table;
 #[cfg(test)]
 mod tests;
+pub mod theorems;
