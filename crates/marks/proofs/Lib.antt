@@ -1,6 +1,5 @@
 pub mod Laying
 pub mod Lifting
-pub mod Nth
 pub mod Order
 pub mod Parts
 pub mod Pass

@@ -7,7 +7,10 @@ use native.Mathlib.Omega.{arith}
 use lib.Dec.{eqb, ltb}
 use lib.ListN.{length, getD, take, drop}
 use Rattle.std.proofs.shelf.Lists.{length-take, getD-take, drop-more, take-more, append-assoc}
+use Rattle.std.proofs.shelf.Maps.{nth-getD, nth-past}
 use Rattle.std.proofs.shelf.Tests.{lt-ltb, le-ltb, eq-eqb, ne-eqb}
+use Rattle.std.specs.Finite.{nth}
+use Rattle.std.specs.declared.option.Option.the-variants.{Some, None}
 use Rattle.division.specs.declared.mark.Mark.{Mark}
 use Rattle.marks.specs.declared.table.MarkTable.{MarkTable}
 use Rattle.marks.specs.Marks.{shares-gap, shares-any, laid, begins-at, lifted}
@@ -28,6 +31,12 @@ pub passed : (t : MarkTable) (i : ℕ) → i < t .len → take (i + 1) (marks-of
 passed t i h =
     take-more (marks-of t) i no-mark (omega (arith, length-marks t))
     ∙ ap (λ x. take i (marks-of t) ++ x ∷ []) (getD-take (t .len) (t .marks) i no-mark h)
+
+pub nth-here : (t : MarkTable) (i : ℕ) → i < t .len → Some (getD (t .marks) i no-mark) ≡ nth (marks-of t) i
+nth-here t i h = ap (λ x. Some x) (sym (getD-take (t .len) (t .marks) i no-mark h)) ∙ sym (nth-getD (marks-of t) i no-mark (omega (arith, length-marks t)))
+
+pub nth-after : (t : MarkTable) (i : ℕ) → t .len ≤ i → None ≡ nth (marks-of t) i
+nth-after t i h = sym (nth-past (marks-of t) i (omega (arith, length-marks t)))
 
 -- An edit of the rest that leaves the mark at the place leaves those passed too.
 pub past : (f : List Mark → List Mark) (t : MarkTable) (i : ℕ) → i < t .len

@@ -8,8 +8,10 @@ use native.Mathlib.Omega.{arith}
 use lib.ListN.{length, getD}
 use Rattle.division.specs.declared.mark.Mark.{Mark}
 use Rattle.marks.specs.Marks.{in-order}
-use Rattle.marks.specs.Theorems.{Covers, Among, Sound, Begin-from, Standing, Order-decides-standing, Later-marks-begin-later, No-gap-shared}
+use Rattle.marks.specs.Theorems.{Covers, Among, Sound, Begin-from, Standing, Order-decides-standing, Every-table-stands, Later-marks-begin-later, No-gap-shared}
+use Rattle.marks.specs.Table.{marks-of}
 use Rattle.marks.proofs.Order.{begun, begin}
+use Rattle.marks.proofs.Pass.{length-marks}
 
 pub first-from : (low : ℕ) (ms : List Mark) → in-order low ms ≡ true → Begin-from low ms
 first-from low [] h = tt
@@ -37,6 +39,9 @@ ordered ms s = orders 1 ms (from-one ms s) s
 
 pub order-decides-standing : Order-decides-standing
 order-decides-standing ms = (stands 1 ms (omega arith), ordered ms)
+
+pub every-table-stands : Every-table-stands
+every-table-stands t = (stands 1 (marks-of t) (omega arith) (t .rising), omega (arith, length-marks t, t .few))
 
 -- Where one of the marks begins, and that it covers a gap.
 pub among-from : (low : ℕ) (ms : List Mark) (x : Mark) → in-order low ms ≡ true → Among x ms → (low ≤ x .first) × (x .first < x .last)

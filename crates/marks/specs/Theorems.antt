@@ -7,7 +7,9 @@ use lib.ListN.{length, getD}
 use Rattle.std.specs.Orderings.{Decides}
 use Rattle.std.specs.declared.option.Option.the-variants.{None}
 use Rattle.division.specs.declared.mark.Mark.{Mark}
+use Rattle.marks.specs.declared.table.MarkTable.{MarkTable}
 use Rattle.marks.specs.Marks.{in-order, laid, lifted, lay-refusal, lift-refusal}
+use Rattle.marks.specs.Table.{marks-of}
 
 -- The mark covers the gap g: its gaps are `first` to `last` - 1.
 abbrev pub Covers : Mark → ℕ → Type 0
@@ -71,6 +73,10 @@ pub record Lifts (first : ℕ) (old new : List Mark) : Type 0 where
 -- The test that the type of a table keeps true says that its marks can stand together.
 abbrev pub Order-decides-standing : Type 0
 Order-decides-standing = (ms : List Mark) → Decides (in-order 1 ms) (Standing ms)
+
+-- The marks of a table stand together, and are 64 at most.
+abbrev pub Every-table-stands : Type 0
+Every-table-stands = (t : MarkTable) → Standing (marks-of t) × (length (marks-of t) ≤ 64)
 
 -- Of marks that stand together, each ends before or where any later one begins.
 abbrev pub Later-marks-begin-later : Type 0
