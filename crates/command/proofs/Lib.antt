@@ -1,2 +1,3 @@
 mod Split
 mod Counted
+mod Gathered

@@ -1,7 +1,9 @@
 // The numbers that words write.
 ghost use mathlib.Core.Path.{_≡_};
 ghost use mathlib.Core.Bool.{cond};
-ghost use Prim.Native.Nat.{_-_};
+ghost use mathlib.Core.List.{List};
+ghost use Prim.Native.Nat.{ℕ, _-_};
+ghost use Rattle.std.specs.declared.option.Option.{Option};
 ghost use Rattle.std.specs.declared.option.Option.the-variants.{Some, None};
 ghost use Rattle.command.specs.Numbers.{is-digit, natural, reading};
 
@@ -27,4 +29,48 @@ pub fn natural(word: &[u8]) -> Option<u64>
         n = n.saturating_mul(10).saturating_add(u64::from(digit(*b)?));
     }
     Some(n)
+}
+
+// A number of a command, written in one word.
+pub trait Field: Sized {
+    ghost means: { List ℕ → Option Self };
+
+    fn from_word(word: &[u8]) -> Option<Self>
+        ensures { λ r. ⌜ r ≡ means (now (word .entry)) ⌝ };
+}
+
+pub impl Field for u64 as U64Field {
+    ghost means = { natural 64 };
+
+    fn from_word(word: &[u8]) -> Option<u64> {
+        natural(word)
+    }
+}
+
+pub impl Field for u16 as U16Field {
+    ghost means = { natural 16 };
+
+    fn from_word(word: &[u8]) -> Option<u16> {
+        Some(natural(word)?.min(u64::from(u16::MAX)) as u16)
+    }
+}
+
+pub impl Field for u8 as U8Field {
+    ghost means = { natural 8 };
+
+    fn from_word(word: &[u8]) -> Option<u8> {
+        Some(natural(word)?.min(u64::from(u8::MAX)) as u8)
+    }
+}
+
+// Digits, or '-' and digits.
+pub impl Field for i32 as I32Field {
+    ghost means = { reading };
+
+    fn from_word(word: &[u8]) -> Option<i32> {
+        match word {
+            [b'-', digits @ ..] => Some(-(natural(digits)?.min(1 << 31) as i64) as i32),
+            _ => Some(natural(word)?.min((1 << 31) - 1) as i32),
+        }
+    }
 }
