@@ -2,3 +2,4 @@ pub mod Words
 pub mod Numbers
 pub mod Said
 pub mod Line
+pub mod Theorems

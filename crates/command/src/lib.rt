@@ -10,6 +10,7 @@ use std::alloc::Global;
 
 mod named;
 mod number;
+pub mod theorems;
 mod word;
 
 // The price of a reading's distance from its stretch's level: its square, itself, or one where there is any.
