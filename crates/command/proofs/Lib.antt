@@ -1,0 +1,6 @@
+mod Split
+mod Counted
+mod Gathered
+mod Back
+mod Printed
+mod Spaced

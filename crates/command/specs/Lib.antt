@@ -1,0 +1,5 @@
+pub mod Words
+pub mod Numbers
+pub mod Said
+pub mod Line
+pub mod Theorems
