@@ -1,13 +1,17 @@
 // One command after the other, on the line that is worked on.
+use crate::problem::Problem;
+use crate::problem::ProblemFromFailure;
+use crate::problem::ProblemFromFault;
+use crate::problem::ProblemFromIo;
+use crate::show::kind_name;
 use crate::show::show_help;
-use crate::show::show_kind;
 use crate::show::show_report;
 use command::Command;
+use command::LossKind;
 use command::read;
 use division::mark::Mark;
-use fault::Failure;
-use fault::FailureFromFault;
 use std::error::AnyError;
+use std::io;
 use std::mem::replace;
 use survey::held::Kind;
 use survey::state::Survey;
@@ -29,40 +33,84 @@ impl Console {
     // Carries out the command on a line of input, and prints what was done or why it was refused.
     pub fn answer(&mut self, rt: &LibcRuntime, line: &[u8]) -> Result<(), AnyError> {
         self.lines = self.lines.saturating_add(1);
-        let result = match read(rt.alloc(), line) {
-            Ok(command) => self.perform(rt, command)?,
-            Err(failure) => Err(failure),
-        };
-        match result {
+        match self.obey(rt, line) {
             Ok(()) => Ok(()),
-            Err(Failure::Refused(fault)) => {
+            Err(Problem::Refused(fault)) => {
+                let line = self.lines;
                 let number = fault.number();
                 let name = fault.name();
-                let line = self.lines;
                 println!(rt, "line {line}: refused {number}, {name}")?;
                 Ok(())
             }
-            Err(Failure::OutOfMemory) => Err("out of memory".into()),
+            Err(Problem::Fatal(error)) => Err(error),
         }
     }
 
-    fn perform(&mut self, rt: &LibcRuntime, command: Command) -> Result<Result<(), Failure>, AnyError> {
-        match command {
-            Command::Nothing => Ok(Ok(())),
-            Command::Help => {
-                show_help(rt)?;
-                Ok(Ok(()))
-            }
-            Command::Loss(kind) => {
-                self.survey = Survey::new(kind);
-                show_kind(rt, kind)?;
-                Ok(Ok(()))
-            }
+    fn obey(&mut self, rt: &LibcRuntime, line: &[u8]) -> Result<(), Problem> {
+        match read(rt.alloc(), line)? {
+            Command::Nothing => Ok(()),
+            Command::Help => Ok(show_help(rt)?),
+            Command::Loss(kind) => self.begin(rt, kind),
             Command::Readings(readings) => self.take_readings(rt, readings.as_slice()),
-            Command::Mark(mark) => self.lay_mark(rt, mark),
-            Command::Unmark(first) => self.lift_mark(rt, first),
+            Command::Mark(mark) => self.lay(rt, mark),
+            Command::Unmark(first) => self.lift(rt, first),
             Command::Shortest(m) => self.set_shortest(rt, m),
             Command::Price { penalty, gaps } => self.price(rt, penalty, gaps.as_slice()),
         }
+    }
+
+    // A new line, under the loss of that kind.
+    fn begin(&mut self, rt: &LibcRuntime, kind: LossKind) -> Result<(), Problem> {
+        self.survey = Survey::new(chosen(kind));
+        let name = kind_name(kind);
+        println!(rt, "loss {name}: a new line")?;
+        Ok(())
+    }
+
+    fn take_readings(&mut self, rt: &LibcRuntime, readings: &[i32]) -> Result<(), Problem> {
+        let before = replace(&mut self.survey, Survey::new(Kind::Squares));
+        let (after, result) = before.gather(readings);
+        self.survey = after;
+        let held = result?;
+        let taken = readings.len();
+        println!(rt, "readings: {taken} taken, {held} held")?;
+        Ok(())
+    }
+
+    fn lay(&mut self, rt: &LibcRuntime, mark: Mark) -> Result<(), Problem> {
+        let count = self.survey.lay(mark)?;
+        let Mark {
+            first,
+            last,
+            boundaries,
+        } = mark;
+        println!(rt, "mark {first} {last} {boundaries}: laid, {count} in all")?;
+        Ok(())
+    }
+
+    fn lift(&mut self, rt: &LibcRuntime, first: u16) -> Result<(), Problem> {
+        let count = self.survey.lift(first)?;
+        println!(rt, "unmark {first}: lifted, {count} in all")?;
+        Ok(())
+    }
+
+    fn set_shortest(&mut self, rt: &LibcRuntime, m: u16) -> Result<(), Problem> {
+        self.survey.set_shortest(m)?;
+        println!(rt, "shortest {m}: set")?;
+        Ok(())
+    }
+
+    fn price(&mut self, rt: &LibcRuntime, penalty: u64, gaps: &[u16]) -> Result<(), Problem> {
+        let report = self.survey.price(rt.alloc(), penalty, gaps)?;
+        let shortest = self.survey.shortest();
+        Ok(show_report(rt, penalty, shortest, gaps, &report)?)
+    }
+}
+
+fn chosen(kind: LossKind) -> Kind {
+    match kind {
+        LossKind::Squares => Kind::Squares,
+        LossKind::Distances => Kind::Distances,
+        LossKind::Votes => Kind::Votes,
     }
 }

@@ -5,6 +5,7 @@ use std::error::AnyError;
 use std::io::Read;
 
 mod console;
+mod problem;
 mod show;
 
 use console::Console;

@@ -1,0 +1,96 @@
+// What is printed.
+use audit::report::CountedMark;
+use audit::report::Report;
+use command::LossKind;
+use division::mark::Mark;
+use std::io;
+
+const HELP: [&str; 9] = [
+    "loss squares|distances|votes      begin a new line under that loss (squares at the start)",
+    "readings 3 3 8 9 4 4              take readings behind those held, all of them or none",
+    "mark FIRST LAST BOUNDARIES        exactly 0 or 1 of the gaps FIRST to LAST - 1 is a boundary",
+    "unmark FIRST                      lift the mark that begins at reading FIRST",
+    "shortest M                        every stretch holds at least M readings",
+    "price PENALTY at GAP GAP ..       check the division with these boundaries",
+    "help                              print this list",
+    "# ..                              a comment",
+    "Gap i lies between reading i and reading i + 1.",
+];
+
+pub fn show_help(rt: &LibcRuntime) -> io::Result<()> {
+    for line in &HELP {
+        println!(rt, "{line}")?;
+    }
+    Ok(())
+}
+
+pub fn kind_name(kind: LossKind) -> &'static str {
+    match kind {
+        LossKind::Squares => "squares",
+        LossKind::Distances => "distances",
+        LossKind::Votes => "votes",
+    }
+}
+
+// What a reader needs to check a printed division.
+pub fn show_report(
+    rt: &LibcRuntime,
+    penalty: u64,
+    shortest: u16,
+    gaps: &[u16],
+    report: &Report,
+) -> io::Result<()> {
+    print!(rt, "price {penalty} at")?;
+    for gap in gaps {
+        print!(rt, " {gap}")?;
+    }
+    println!(rt, "")?;
+    show_stretches(rt, report)?;
+    show_marks(rt, report)?;
+    show_sums(rt, shortest, report)
+}
+
+fn show_stretches(rt: &LibcRuntime, report: &Report) -> io::Result<()> {
+    for stretch in report.stretches.as_slice() {
+        let first = u32::from(stretch.start) + 1;
+        let last = stretch.end;
+        let loss = stretch.loss;
+        println!(rt, "  readings {first} to {last} lose {loss}")?;
+    }
+    Ok(())
+}
+
+fn show_marks(rt: &LibcRuntime, report: &Report) -> io::Result<()> {
+    for counted in report.marks.as_slice() {
+        let Mark {
+            first,
+            last,
+            boundaries,
+        } = counted.mark;
+        let found = counted.boundaries;
+        let verdict = if counted.obeyed { "obeyed" } else { "broken" };
+        println!(
+            rt,
+            "  mark {first} {last} {boundaries} holds {found}: {verdict}"
+        )?;
+    }
+    Ok(())
+}
+
+fn show_sums(rt: &LibcRuntime, shortest: u16, report: &Report) -> io::Result<()> {
+    let length = if report.long_enough {
+        "every stretch is long enough"
+    } else {
+        "a stretch is too short"
+    };
+    let loss = report.loss;
+    let total = report.total;
+    let verdict = if report.allowed {
+        "allowed"
+    } else {
+        "not allowed"
+    };
+    println!(rt, "  shortest {shortest}: {length}")?;
+    println!(rt, "  loss {loss}, total {total}")?;
+    println!(rt, "  {verdict}")
+}
