@@ -8,6 +8,12 @@ use Rattle.fault.specs.declared.Fault.{Fault}
 use Rattle.fault.specs.declared.Failure.{Failure}
 use Rattle.fault.specs.declared.Failure.the-variants.{Refused, OutOfMemory}
 
+-- the value x, unless a cause applies
+abbrev pub unless : {X : Type 0} → Option Fault → X → Result X Fault
+unless None x = Ok x
+unless (Some f) x = Err f
+
+-- the same of an answer whose value is told apart
 abbrev pub Refused-for : {X : Type 0} → Option Fault → Result X Fault → Type 0
 Refused-for cause (Ok x) = cause ≡ None
 Refused-for cause (Err f) = cause ≡ Some f

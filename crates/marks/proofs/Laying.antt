@@ -10,25 +10,26 @@ use lib.ListN.{length}
 use Rattle.std.proofs.shelf.Tests.{cases-lt, lt-ltb, le-ltb}
 use Rattle.division.specs.declared.mark.Mark.{Mark}
 use Rattle.marks.specs.Marks.{laid}
-use Rattle.marks.specs.Theorems.{Among, Less-one, Laid-adds-one}
+use Rattle.division.specs.Theorems.{In}
+use Rattle.marks.specs.Theorems.{Less-one, Laid-adds-one}
 use Rattle.marks.proofs.Order.{laid-in-order}
 use Rattle.marks.proofs.Sharing.{unshared}
 use Rattle.marks.proofs.Stand.{ordered, stands}
 
-pub among-more : (m : Mark) (front back : List Mark) (x : Mark) → Among x (front ++ m ∷ back) → (x ≡ m) ⊎ Among x (front ++ back)
+pub among-more : (m : Mark) (front back : List Mark) (x : Mark) → In x (front ++ m ∷ back) → (x ≡ m) ⊎ In x (front ++ back)
 among-more m [] back x a = a
 among-more m (k ∷ ks) back x a =
     ⊎-elim
     (λ (e : x ≡ k). inr (inl e))
-    (λ (b : Among x (ks ++ m ∷ back)). ⊎-elim (λ (e : x ≡ m). inl e) (λ (d : Among x (ks ++ back)). inr (inr d)) (among-more m ks back x b))
+    (λ (b : In x (ks ++ m ∷ back)). ⊎-elim (λ (e : x ≡ m). inl e) (λ (d : In x (ks ++ back)). inr (inr d)) (among-more m ks back x b))
     a
 
-pub among-fewer : (m : Mark) (front back : List Mark) (x : Mark) → (x ≡ m) ⊎ Among x (front ++ back) → Among x (front ++ m ∷ back)
+pub among-fewer : (m : Mark) (front back : List Mark) (x : Mark) → (x ≡ m) ⊎ In x (front ++ back) → In x (front ++ m ∷ back)
 among-fewer m [] back x a = a
 among-fewer m (k ∷ ks) back x a =
     ⊎-elim
     (λ (e : x ≡ m). inr (among-fewer m ks back x (inl e)))
-    (λ (b : Among x (k ∷ ks ++ back)). ⊎-elim (λ (e : x ≡ k). inl e) (λ (d : Among x (ks ++ back)). inr (among-fewer m ks back x (inr d))) b)
+    (λ (b : In x (k ∷ ks ++ back)). ⊎-elim (λ (e : x ≡ k). inl e) (λ (d : In x (ks ++ back)). inr (among-fewer m ks back x (inr d))) b)
     a
 
 pub length-more : (m : Mark) (front back : List Mark) → length (front ++ m ∷ back) ≡ suc (length (front ++ back))
@@ -51,9 +52,9 @@ laid-adds-one m ms s w a =
     let d = laid-splits m ms in
     let o = ordered ms s in
     record {
-      holds = λ x b. subst (λ t. (x ≡ m) ⊎ Among x t) (sym (d .without-it)) (among-more m (d .front) (d .back) x (subst (λ t. Among x t) (d .with-it) b));
-      held = λ x b. subst (λ t. Among x t) (sym (d .with-it)) (among-fewer m (d .front) (d .back) x (subst (λ t. (x ≡ m) ⊎ Among x t) (d .without-it) b));
+      holds = λ x b. subst (λ t. (x ≡ m) ⊎ In x t) (sym (d .without-it)) (among-more m (d .front) (d .back) x (subst (λ t. In x t) (d .with-it) b));
+      held = λ x b. subst (λ t. In x t) (sym (d .with-it)) (among-fewer m (d .front) (d .back) x (subst (λ t. (x ≡ m) ⊎ In x t) (d .without-it) b));
       one-more = ap length (d .with-it) ∙ length-more m (d .front) (d .back) ∙ ap (λ t. suc (length t)) (sym (d .without-it));
       others-in-order = d;
-      stands = stands 1 (laid m ms) (omega arith) (laid-in-order 1 m ms o (w .begins) (w .covers) (w .none-or-one) (unshared 1 m ms o (w .covers) a));
+      stands = stands 1 (laid m ms) (omega arith) (laid-in-order 1 m ms o (w .starts) (w .rises) (w .zero-or-one) (unshared 1 m ms o (w .rises) a));
     }

@@ -12,7 +12,10 @@ use Rattle.std.proofs.shelf.Tests.{cases-lt, le-ltb}
 use Rattle.std.proofs.shelf.Ways.{tells}
 use Rattle.division.specs.declared.mark.Mark.{Mark}
 use Rattle.marks.specs.Marks.{well-formed, shares-gap, shares-any, in-order, lay-refusal}
-use Rattle.marks.specs.Theorems.{Covers, Among, Apart, Sound, Standing, Layable, Laid-when-layable}
+use Rattle.division.specs.Marks.{Covers}
+use Rattle.division.specs.Stretches.{Well-formed}
+use Rattle.division.specs.Theorems.{In}
+use Rattle.marks.specs.Theorems.{Apart, Standing, Layable, Laid-when-layable}
 use Rattle.marks.proofs.Order.{begun, allowed}
 use Rattle.marks.proofs.Stand.{ordered}
 
@@ -27,7 +30,7 @@ apart m (k ∷ ks) h x g a c d =
     let q : k .first < m .last = omega arith in
     let z : _≡_ {A = ℕ} 0 1 = grind (arith, tells) in
     absurd (omega arith))
-    (λ (b : Among x ks). let r : shares-any m ks ≡ false = grind (arith, tells) in apart m ks r x g b c d)
+    (λ (b : In x ks). let r : shares-any m ks ≡ false = grind (arith, tells) in apart m ks r x g b c d)
     a
 
 -- Two marks that cover a gap each, and none in common.
@@ -57,12 +60,12 @@ unshared low m (k ∷ ks) h l a =
 pub laid-when-layable : Laid-when-layable
 laid-when-layable n m ms s = (
   (λ h. let a = allowed n m ms (sym h) in
-      record { sound = record { begins = a .from-one; covers = a .covers; none-or-one = a .none-or-one }; on-line = a .on-line; apart = apart m ms (a .apart); room = a .room }),
+      record { well-formed = record { starts = a .from-one; rises = a .covers; zero-or-one = a .none-or-one }; on-line = a .on-line; apart = apart m ms (a .apart); room = a .room }),
   (λ k.
-      let u : shares-any m ms ≡ false = unshared 1 m ms (ordered ms s) (k .sound .covers) (k .apart) in
-      let a = k .sound .begins in
-      let b = k .sound .covers in
-      let c = k .sound .none-or-one in
+      let u : shares-any m ms ≡ false = unshared 1 m ms (ordered ms s) (k .well-formed .rises) (k .apart) in
+      let a = k .well-formed .starts in
+      let b = k .well-formed .rises in
+      let c = k .well-formed .zero-or-one in
       let w : well-formed n m ≡ true = grind (arith, tells) in
       let r : ltb (length ms) 64 ≡ true = grind (arith, tells) in
       rw (w, u, r)),

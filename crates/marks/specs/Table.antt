@@ -1,8 +1,6 @@
--- The marks that a table holds, and an answer that is a table or a refusal.
+-- The marks that a table holds, and those of an answer that may be a refusal.
 use mathlib.Core.List.{List}
 use lib.ListN.{take}
-use Rattle.std.specs.declared.option.Option.{Option}
-use Rattle.std.specs.declared.option.Option.the-variants.{Some, None}
 use Rattle.std.specs.declared.result.Result.{Result}
 use Rattle.std.specs.declared.result.Result.the-variants.{Ok, Err}
 use Rattle.fault.specs.declared.Fault.{Fault}
@@ -17,8 +15,3 @@ marks-of t = take (t .len) (t .marks)
 abbrev pub listed : Result MarkTable Fault → Result (List Mark) Fault
 listed (Ok t) = Ok (marks-of t)
 listed (Err f) = Err f
-
--- The value x, unless there is a refusal.
-abbrev pub unless : {X : Type 0} → Option Fault → X → Result X Fault
-unless None x = Ok x
-unless (Some f) x = Err f

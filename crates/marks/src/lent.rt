@@ -2,8 +2,9 @@
 ghost use mathlib.Core.Path.{_≡_};
 ghost use lib.ListN.{length};
 ghost use Rattle.std.specs.Results.{Cases};
+ghost use Rattle.fault.specs.Refusal.{unless};
 ghost use Rattle.marks.specs.Marks.{laid, lifted, lay-refusal, lift-refusal};
-ghost use Rattle.marks.specs.Table.{marks-of, unless};
+ghost use Rattle.marks.specs.Table.{marks-of};
 use crate::table::MarkTable;
 use division::mark::Mark;
 use fault::Fault;

@@ -29,7 +29,7 @@ pub fn no_gap_is_shared() -> u8
     0
 }
 
-// A mark is laid exactly when it is sound, on the line and apart from the others, and fewer than 64 stand.
+// A mark is laid exactly when it is well formed, on the line and apart from the others, and fewer than 64 stand.
 pub fn laid_when_layable() -> u8
     ensures { λ _. ⌜ Laid-when-layable ⌝ }
 {
