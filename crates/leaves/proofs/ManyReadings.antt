@@ -12,7 +12,6 @@ use Rattle.std.proofs.shelf.Lists.{length-append, length-take, take-more}
 use Rattle.std.proofs.shelf.Ways.{tells, decides-by-and}
 use Rattle.std.specs.Orderings.{Decides}
 use Rattle.std.specs.shelf.Lists.{All}
-use Rattle.std.specs.declared.result.Result.{Result}
 use Rattle.std.specs.declared.result.Result.the-variants.{Ok, Err}
 use Rattle.fault.specs.declared.Fault.{Fault}
 use Rattle.leaves.specs.Taking.{between, all-between, taken, after, gathered, after-all}

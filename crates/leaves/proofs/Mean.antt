@@ -2,12 +2,12 @@
 use mathlib.Core.Path.{_≡_, refl, sym, ap, _∙_}
 use mathlib.Core.Logic.{_⊎_, inl, inr}
 use mathlib.Core.List.{List, [], _∷_}
-use Prim.Native.Nat.{ℕ, zero, suc, _+_, _-_, _*_, _^_, _/_, _%_, _≤_, _<_}
+use Prim.Native.Nat.{ℕ, zero, suc, _+_, _-_, _*_, _/_, _%_, _≤_, _<_}
 use native.Mathlib.Nat.{mul-one, mul-suc, suc-mul, mul-add, mul-assoc, mul-zero, zero-mul, mul-le-mul, mul-le-mul-left, div-add-mod, mod-lt}
 use native.Mathlib.Omega.{arith}
 use lib.ListN.{length, getD, take}
 use Rattle.std.proofs.shelf.Ways.{leb-tells}
-use Rattle.std.proofs.shelf.Lists.{length-take, take-all}
+use Rattle.std.proofs.shelf.Lists.{take-all}
 use Rattle.leaves.specs.declared.squares.Squares.{Squares}
 use Rattle.leaves.specs.Held.{squares-readings}
 use Rattle.leaves.specs.Readings.{lowest, square, loss-of, stretch-of}

@@ -1,11 +1,10 @@
 -- A level that half of the readings stand at or below, and half at or above, costs the least sum of distances.
-use mathlib.Core.Path.{_≡_, refl, sym, ap, _∙_}
-use mathlib.Core.Logic.{_⊎_, inl, inr}
+use mathlib.Core.Path.{_≡_, refl}
 use mathlib.Core.List.{List, [], _∷_}
-use Prim.Native.Nat.{ℕ, zero, suc, _+_, _-_, _*_, _≤_, _<_}
+use Prim.Native.Nat.{ℕ, suc, _+_, _≤_, _<_}
 use native.Mathlib.Omega.{arith}
-use lib.ListN.{length, getD}
-use Rattle.std.proofs.shelf.Ways.{leb-tells, tells}
+use lib.ListN.{length}
+use Rattle.std.proofs.shelf.Ways.{tells}
 use Rattle.leaves.specs.Readings.{distance}
 use Rattle.leaves.specs.Kept.{sum-of, apart, cost, up-to, Low}
 use Rattle.leaves.proofs.Parts.{valley}

@@ -2,21 +2,19 @@
 use mathlib.Core.Path.{_≡_, refl, sym, ap, _∙_}
 use mathlib.Core.List.{List, [], _∷_, _++_, map}
 use mathlib.Core.Logic.{inl, inr}
-use Prim.Native.Nat.{ℕ, zero, suc, _+_, _-_, _*_, _^_, _≤_, _<_}
-use native.Mathlib.Nat.{add-assoc, zero-add, add-zero, suc-mul}
+use Prim.Native.Nat.{ℕ, zero, suc, _+_, _-_, _*_, _≤_, _<_}
+use native.Mathlib.Nat.{add-assoc, zero-add, suc-mul}
 use native.Mathlib.Omega.{arith}
 use lib.IntN.{ℤ, pos, _+ℤ_, _-ℤ_, natAbs}
 use lib.ListN.{length, getD, take, drop}
-use lib.Signed.{_≤ℤ_, _<ℤ_}
+use lib.Signed.{_<ℤ_}
 use Rattle.std.proofs.shelf.Signed.{ints, by-ltZ}
-use Rattle.std.proofs.shelf.Ways.{tells, leb-tells}
+use Rattle.std.proofs.shelf.Ways.{leb-tells}
 use Rattle.std.proofs.shelf.Lists.{take-append-drop, take-take, drop-take, take-map, drop-map, take-more, length-take, length-drop, getD-take, getD-drop}
-use Rattle.std.proofs.shelf.Elements.{all-map}
 use Rattle.std.specs.shelf.Lists.{All}
-use Rattle.leaves.specs.Readings.{cost-at, Least, least-of, Rising, stretch-of, loss-of}
+use Rattle.leaves.specs.Readings.{cost-at, least-of, Rising, stretch-of, loss-of}
 use Rattle.leaves.specs.LeastLevel.{least-of-all, least-is-one, nearer}
-use Rattle.leaves.specs.Soundness.{length-held}
-use Rattle.leaves.specs.Kept.{placed, sum-of, apart, cost, Before, Low, held}
+use Rattle.leaves.specs.Kept.{placed, sum-of, apart, cost, Low, held}
 
 pub sum-append : {A : Type 0} (f : A → ℕ) (xs ys : List A) → sum-of f (xs ++ ys) ≡ sum-of f xs + sum-of f ys
 sum-append f [] ys = sym (zero-add (sum-of f ys))

@@ -1,6 +1,6 @@
 // A loss that holds readings of its own and takes them one by one.
 ghost use mathlib.Core.Path.{_≡_};
-ghost use Prim.Native.Nat.{ℕ, _≤_};
+ghost use Prim.Native.Nat.{ℕ, _^_, _≤_};
 ghost use mathlib.Core.List.{List};
 ghost use lib.IntN.{ℤ};
 ghost use lib.ListN.{length};
@@ -12,6 +12,7 @@ use loss::model::Loss;
 
 // A stretch loses the least, over all whole levels, of the prices of its readings' distances from the level.
 pub trait Leaf: Loss {
+    // The readings held, in their order.
     ghost readings: { Self → List ℤ };
 
     // A reading is one of the levels lo, lo + 1, .. lo + span.
@@ -19,13 +20,19 @@ pub trait Leaf: Loss {
 
     ghost span: { ℕ };
 
+    // What a reading costs by its distance from the level.
     ghost price: { ℕ → ℕ };
 
-    // The ceiling: no reading costs more at any of those levels.
+    // The ceiling.
     ghost dearest: { ℕ };
 
+    // What the loss stands for is told by its readings alone.
     law tied: { (x : Self) → Self·Loss .table x ≡ table-of price dearest (readings x) };
 
+    // It is never too heavy.
+    law light: { dearest ≤ 2 ^ 40 };
+
+    // A reading further from the level costs no less.
     law rises: { Rising price };
 
     law fits: { (x : Self) → All (Between lo span) (readings x) };

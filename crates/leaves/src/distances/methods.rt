@@ -1,7 +1,7 @@
 // How readings are taken, and what stretches lose, by distances.
 ghost use mathlib.Core.Path.{_≡_};
 ghost use mathlib.Core.List.{[]};
-ghost use Prim.Native.Nat.{ℕ, _+_, _-_, _*_, _^_, _<_, _≤_};
+ghost use Prim.Native.Nat.{ℕ, _+_, _-_, _<_, _≤_};
 ghost use lib.ListN.{length};
 ghost use Rattle.leaves.specs.Readings.{lowest, distance, table-of};
 ghost use Rattle.leaves.specs.Kept.{sum-of, up-to, cost};

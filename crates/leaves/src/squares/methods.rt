@@ -1,7 +1,7 @@
 // How readings are taken, and what stretches lose, by squares.
 ghost use mathlib.Core.Path.{_≡_};
 ghost use mathlib.Core.List.{[]};
-ghost use Prim.Native.Nat.{ℕ, _+_, _-_, _*_, _/_, _%_, _^_, _<_, _≤_};
+ghost use Prim.Native.Nat.{_+_, _-_, _*_, _/_, _%_, _^_, _<_, _≤_};
 ghost use Rattle.leaves.specs.Readings.{lowest, square, table-of};
 ghost use Rattle.leaves.specs.Kept.{nearest};
 ghost use Rattle.leaves.specs.Held.{squares-readings};

@@ -21,4 +21,4 @@ cast-result c = let h = between-tells (c .args .lo) (c .args .span) (c .args .x)
 pub returns : need.returns
 returns c =
     let far = toZ w64 (ofZ w64 (c .from .result)) -ℤ toZ w64 (ofZ w64 (c .from-2 .result)) in
-    admitted-at (c .args .lo) (c .args .span) (c .args .held) (c .args .x) (toZ w64 (ofZ w64 far)) (fits c) (c .if-held-ge-MOST-READINGS .left) (omega (arith, ints))
+    admitted-at (c .args .lo) (c .args .span) (c .args .held) (c .args .x) (toZ w64 (ofZ w64 far)) (fits c) (omega arith) (omega (arith, ints))

@@ -1,12 +1,10 @@
-use mathlib.Core.Path.{_≡_, sym, ap, _∙_}
+use mathlib.Core.Path.{ap, _∙_}
 use mathlib.Core.List.{List}
-use Prim.Native.Nat.{ℕ, _+_, _<_, _≤_}
+use Prim.Native.Nat.{ℕ}
 use native.Mathlib.Omega.{arith}
-use borrow.Author.Needs.{needs}
-use lib.ListN.{length, getD, take}
 use Rattle.std.proofs.shelf.Lists.{take-all}
 use Rattle.leaves.specs.Readings.{distance}
-use Rattle.leaves.specs.Kept.{sum-of, apart, cost}
+use Rattle.leaves.specs.Kept.{apart, cost}
 use Rattle.leaves.proofs.Parts.{sum-more}
 use Rattle.leaves.proofs.distances.methods.cost_about.Needs as need
 

@@ -1,10 +1,7 @@
-use mathlib.Core.Path.{_≡_, sym, ap, _∙_}
-use Prim.Native.Nat.{_+_, _<_, _≤_}
+use mathlib.Core.Path.{_≡_, ap, _∙_}
 use native.Mathlib.Omega.{arith}
-use borrow.Author.Needs.{needs}
-use lib.ListN.{length, getD, take}
+use lib.ListN.{getD}
 use Rattle.std.proofs.shelf.Lists.{take-all}
-use Rattle.std.proofs.shelf.Ways.{tells}
 use Rattle.leaves.specs.Kept.{sum-of, up-to}
 use Rattle.leaves.proofs.Parts.{sum-more}
 use Rattle.leaves.proofs.Middle.{up-to-yes, up-to-no}

@@ -1,5 +1,4 @@
 use Prim.Native.Nat.{ℕ, _≤_, _<_, _+_, _-_}
-use mathlib.Core.Path.{_≡_}
 use lib.ListN.{length}
 use Rattle.leaves.specs.Kept.{sum-of, up-to}
 use Rattle.leaves.proofs.distances.methods.middle.Given as given

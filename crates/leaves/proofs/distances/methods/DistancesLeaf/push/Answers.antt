@@ -1,7 +1,6 @@
-use mathlib.Core.Path.{_≡_, ap, _∙_}
 use Rattle.std.proofs.shelf.Results.{err-from-errBy}
 use Rattle.leaves.specs.Readings.{lowest}
-use Rattle.leaves.proofs.Admission.{Grown, grown, refused}
+use Rattle.leaves.proofs.Admission.{grown, refused}
 use Rattle.leaves.proofs.distances.methods.DistancesLeaf.push.Needs as need
 
 pub returns-in-Break-u : need.returns-in-Break-u

@@ -1,4 +1,3 @@
-use mathlib.Core.Path.{_≡_}
 use Prim.Native.Nat.{_+_, _*_, _<_, _≤_}
 use native.Mathlib.Nat.{mul-le-mul}
 use native.Mathlib.Omega.{arith}
@@ -7,7 +6,7 @@ use lib.ListN.{length}
 use Rattle.std.proofs.shelf.Results.{err-from-errBy}
 use Rattle.leaves.specs.Readings.{lowest}
 use Rattle.leaves.specs.Kept.{itself, squared}
-use Rattle.leaves.proofs.Admission.{Grown, grown, refused}
+use Rattle.leaves.proofs.Admission.{grown, refused}
 use Rattle.leaves.proofs.Grown.{before-more}
 use Rattle.leaves.proofs.Mean.{sums-fit, squares-fit}
 use Rattle.leaves.proofs.squares.methods.SquaresLeaf.push.Needs as need

@@ -1,6 +1,5 @@
 use mathlib.Core.Path.{sym}
 use native.Mathlib.Omega.{arith}
-use lib.IntN.{pos}
 use Rattle.leaves.specs.Readings.{lowest}
 use Rattle.leaves.specs.Soundness.{length-held}
 use Rattle.leaves.proofs.squares.methods.SquaresLoss.length.Needs as need

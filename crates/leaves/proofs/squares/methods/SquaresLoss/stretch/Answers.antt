@@ -1,5 +1,4 @@
-use mathlib.Core.Path.{_≡_}
-use Prim.Native.Nat.{ℕ, _+_, _-_, _*_, _^_, _<_, _≤_}
+use Prim.Native.Nat.{_-_, _*_, _^_, _≤_}
 use native.Mathlib.Nat.{mul-le-mul}
 use native.Mathlib.Omega.{arith}
 use borrow.Author.Needs.{needs}
@@ -7,7 +6,7 @@ use Rattle.leaves.specs.Soundness.{length-held}
 use Rattle.leaves.specs.Readings.{lowest, square, table-of}
 use Rattle.leaves.specs.Held.{squares-readings}
 use Rattle.leaves.proofs.Answered.{answer-is}
-use Rattle.leaves.proofs.Mean.{found, Found}
+use Rattle.leaves.proofs.Mean.{found}
 use Rattle.leaves.proofs.squares.methods.SquaresLoss.stretch.Needs as need
 
 pub sub-s : need.sub-s

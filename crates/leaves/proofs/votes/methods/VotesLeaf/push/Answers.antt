@@ -1,6 +1,6 @@
 use mathlib.Core.Path.{_≡_}
 use mathlib.Core.List.{[]}
-use Prim.Native.Nat.{_+_, _<_, _≤_}
+use Prim.Native.Nat.{_+_, _<_}
 use native.Mathlib.Omega.{arith}
 use borrow.Author.Needs.{needs}
 use lib.IntN.{pos}
@@ -8,7 +8,7 @@ use lib.ListN.{length, getD, take}
 use Rattle.std.proofs.shelf.Lists.{length-take}
 use Rattle.std.proofs.shelf.Results.{err-from-errBy}
 use Rattle.leaves.specs.Kept.{hit}
-use Rattle.leaves.proofs.Admission.{Grown, grown, refused}
+use Rattle.leaves.proofs.Admission.{grown, refused}
 use Rattle.leaves.proofs.Grown.{counts-more, wide-more, hit-le}
 use Rattle.leaves.proofs.Parts.{sum-le}
 use Rattle.leaves.proofs.votes.methods.VotesLeaf.push.Needs as need

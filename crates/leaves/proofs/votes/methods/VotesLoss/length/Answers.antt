@@ -1,7 +1,6 @@
 use mathlib.Core.Path.{sym}
 use native.Mathlib.Omega.{arith}
 use lib.IntN.{pos}
-use Rattle.leaves.specs.Readings.{lowest}
 use Rattle.leaves.specs.Soundness.{length-held}
 use Rattle.leaves.proofs.votes.methods.VotesLoss.length.Needs as need
 
