@@ -13,7 +13,7 @@ mod number;
 pub mod theorems;
 mod word;
 
-// The price of a reading's distance from its stretch's level: its square, itself, or one where there is any.
+// The loss that a line's stretches are measured by.
 #[derive(Clone, Copy)]
 pub enum LossKind {
     Squares,
@@ -23,21 +23,29 @@ pub enum LossKind {
 
 #[derive(Drop)]
 pub enum Command {
+    // no word, or a first word that begins with '#'
     Nothing,
+    // help
     Help,
+    // loss squares | loss distances | loss votes
     Loss(LossKind),
+    // readings READING READING ..
     Readings(Vec<i32>),
+    // mark FIRST LAST BOUNDARIES
     Mark(Mark),
+    // unmark FIRST
     Unmark(u16),
+    // shortest M
     Shortest(u16),
+    // price PENALTY, or price PENALTY at GAP GAP ..
     Price { penalty: u64, gaps: Vec<u16> },
 }
 
 // The most bytes of a line.
 pub const LONGEST: usize = 4096;
 
-// What a line without its line end asks. Too many bytes or one that is not legible are refused first, then an unknown command
-// or words that do not fit it, then a word that writes no number.
+// What a line, without its line end, asks. What is refused first: more than LONGEST bytes, or one that is neither a blank nor
+// printable; then an unknown command, or words that do not fit it; then a word that should write a number and does not.
 pub fn read(heap: Global, line: &[u8]) -> Result<Command, Failure>
     ensures { λ r. ⌜ Answers said (read-line (now (line .entry))) r ⌝ }
 {

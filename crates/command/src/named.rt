@@ -99,6 +99,7 @@ fn three(text: &[u8]) -> Result<(&[u8], &[u8], &[u8]), Fault>
     Ok((first, second, third))
 }
 
+// loss squares | loss distances | loss votes
 fn loss(text: &[u8]) -> Result<Command, Failure>
     ensures { λ r. ⌜ Answers said (to-loss (words (now (text .entry)))) r ⌝ }
 {
@@ -114,6 +115,7 @@ fn loss(text: &[u8]) -> Result<Command, Failure>
     }
 }
 
+// readings READING READING ..
 fn readings(heap: Global, text: &[u8]) -> Result<Command, Failure>
     ensures { λ r. ⌜ Answers said (to-readings (words (now (text .entry)))) r ⌝ }
 {
@@ -123,6 +125,7 @@ fn readings(heap: Global, text: &[u8]) -> Result<Command, Failure>
     Ok(Command::Readings(fields(heap, text)?))
 }
 
+// mark FIRST LAST BOUNDARIES
 fn mark(text: &[u8]) -> Result<Command, Failure>
     ensures { λ r. ⌜ Answers said (to-mark (words (now (text .entry)))) r ⌝ }
 {
@@ -137,6 +140,7 @@ fn mark(text: &[u8]) -> Result<Command, Failure>
     }))
 }
 
+// unmark FIRST
 fn unmark(text: &[u8]) -> Result<Command, Failure>
     ensures { λ r. ⌜ Answers said (to-unmark (words (now (text .entry)))) r ⌝ }
 {
@@ -144,6 +148,7 @@ fn unmark(text: &[u8]) -> Result<Command, Failure>
     Ok(Command::Unmark(first))
 }
 
+// shortest M
 fn shortest(text: &[u8]) -> Result<Command, Failure>
     ensures { λ r. ⌜ Answers said (to-shortest (words (now (text .entry)))) r ⌝ }
 {
@@ -162,6 +167,7 @@ fn behind_at(text: &[u8]) -> Result<&[u8], Fault>
     }
 }
 
+// price PENALTY, or price PENALTY at GAP GAP ..
 fn price(heap: Global, text: &[u8]) -> Result<Command, Failure>
     ensures { λ r. ⌜ Answers said (to-price (words (now (text .entry)))) r ⌝ }
 {
