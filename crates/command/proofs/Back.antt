@@ -19,7 +19,7 @@ use Rattle.std.specs.declared.option.Option.the-variants.{Some, None}
 use Rattle.std.specs.declared.result.Result.the-variants.{Ok, Err}
 use Rattle.std.proofs.shelf.Tests.{cases-bool, and-parts, leb-true, eqb-true, le-ltb}
 use Rattle.std.proofs.shelf.Ways.{tells}
-use Rattle.command.specs.declared.LossKind.the-variants.{Squares, Distances, Votes}
+use Rattle.leaves.specs.declared.kind.LossKind.the-variants.{Squares, Distances, Votes}
 use Rattle.command.specs.Words.{blank, legible, all-legible, words}
 use Rattle.command.specs.Numbers.{decimal, natural, integer, reading}
 use Rattle.command.specs.Said.{Said, nothing, help, loss, readings, mark, unmark, shortest, price}

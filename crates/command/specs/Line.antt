@@ -12,7 +12,7 @@ use Rattle.std.specs.declared.result.Result.{Result}
 use Rattle.std.specs.declared.result.Result.the-variants.{Ok, Err}
 use Rattle.fault.specs.declared.Fault.{Fault}
 use Rattle.fault.specs.declared.Fault.the-variants.{MalformedLine, UnknownFrame}
-use Rattle.command.specs.declared.LossKind.the-variants.{Squares, Distances, Votes}
+use Rattle.leaves.specs.declared.kind.LossKind.the-variants.{Squares, Distances, Votes}
 use Rattle.command.specs.Words.{words, all-legible}
 use Rattle.command.specs.Numbers.{natural, reading}
 use Rattle.command.specs.Said.{Said, nothing, help, loss, readings, mark, unmark, shortest, price}

@@ -10,7 +10,7 @@ use Rattle.fault.specs.declared.Fault.{Fault}
 use Rattle.fault.specs.declared.Failure.{Failure}
 use Rattle.fault.specs.declared.Failure.the-variants.{Refused, OutOfMemory}
 use Rattle.division.specs.declared.mark.Mark.{Mark as Marked}
-use Rattle.command.specs.declared.LossKind.{LossKind}
+use Rattle.leaves.specs.declared.kind.LossKind.{LossKind}
 use Rattle.command.specs.declared.Command.{Command}
 use Rattle.command.specs.declared.Command.the-variants.{Nothing, Help, Loss, Readings, Mark, Unmark, Shortest, Price}
 

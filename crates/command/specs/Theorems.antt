@@ -11,8 +11,8 @@ use Rattle.std.specs.Written.{decimal as digits-of, signed as signed-digits-of}
 use Rattle.std.specs.shelf.Lists.{All}
 use Rattle.std.specs.declared.option.Option.the-variants.{Some}
 use Rattle.std.specs.declared.result.Result.the-variants.{Ok}
-use Rattle.command.specs.declared.LossKind.{LossKind}
-use Rattle.command.specs.declared.LossKind.the-variants.{Squares, Distances, Votes}
+use Rattle.leaves.specs.declared.kind.LossKind.{LossKind}
+use Rattle.leaves.specs.declared.kind.LossKind.the-variants.{Squares, Distances, Votes}
 use Rattle.command.specs.Words.{blank, words}
 use Rattle.command.specs.Numbers.{decimal}
 use Rattle.command.specs.Said.{Said, nothing, help, loss, readings, mark, unmark, shortest, price}

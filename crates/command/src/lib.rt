@@ -6,20 +6,13 @@ use crate::word::next_word;
 use division::mark::Mark;
 use fault::Failure;
 use fault::Fault;
+use leaves::kind::LossKind;
 use std::alloc::Global;
 
 mod named;
 mod number;
 pub mod theorems;
 mod word;
-
-// The loss that a line's stretches are measured by.
-#[derive(Clone, Copy)]
-pub enum LossKind {
-    Squares,
-    Distances,
-    Votes,
-}
 
 #[derive(Drop)]
 pub enum Command {

@@ -10,7 +10,6 @@ ghost use Rattle.command.specs.Words.{words};
 ghost use Rattle.command.specs.Line.{number, read-all, alone, one, three, to-loss, to-readings, to-mark, to-unmark, to-shortest, behind-at, to-price, by-name};
 ghost use Rattle.command.specs.Said.{Answers, said};
 use crate::Command;
-use crate::LossKind;
 use crate::number::Field;
 use crate::number::I32Field;
 use crate::number::U8Field;
@@ -23,6 +22,7 @@ use fault::FailureFromAlloc;
 use fault::FailureFromFault;
 use fault::FailureFromUnplaced;
 use fault::Fault;
+use leaves::kind::LossKind;
 use std::alloc::Global;
 
 // Is the word that name?

@@ -7,13 +7,11 @@ use crate::show::kind_name;
 use crate::show::show_help;
 use crate::show::show_report;
 use command::Command;
-use command::LossKind;
 use command::read;
 use division::mark::Mark;
+use leaves::kind::LossKind;
 use std::error::AnyError;
-use std::io;
 use std::mem::replace;
-use survey::held::Kind;
 use survey::state::Survey;
 
 #[derive(Drop)]
@@ -25,7 +23,7 @@ pub struct Console {
 impl Console {
     pub fn new() -> Console {
         Console {
-            survey: Survey::new(Kind::Squares),
+            survey: Survey::new(LossKind::Squares),
             lines: 0,
         }
     }
@@ -61,14 +59,14 @@ impl Console {
 
     // A new line, under the loss of that kind.
     fn begin(&mut self, rt: &LibcRuntime, kind: LossKind) -> Result<(), Problem> {
-        self.survey = Survey::new(chosen(kind));
+        self.survey = Survey::new(kind);
         let name = kind_name(kind);
         println!(rt, "loss {name}: a new line")?;
         Ok(())
     }
 
     fn take_readings(&mut self, rt: &LibcRuntime, readings: &[i32]) -> Result<(), Problem> {
-        let before = replace(&mut self.survey, Survey::new(Kind::Squares));
+        let before = replace(&mut self.survey, Survey::new(LossKind::Squares));
         let (after, result) = before.gather(readings);
         self.survey = after;
         let held = result?;
@@ -104,13 +102,5 @@ impl Console {
         let report = self.survey.price(rt.alloc(), penalty, gaps)?;
         let shortest = self.survey.shortest();
         Ok(show_report(rt, penalty, shortest, gaps, &report)?)
-    }
-}
-
-fn chosen(kind: LossKind) -> Kind {
-    match kind {
-        LossKind::Squares => Kind::Squares,
-        LossKind::Distances => Kind::Distances,
-        LossKind::Votes => Kind::Votes,
     }
 }

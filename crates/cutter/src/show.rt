@@ -1,8 +1,7 @@
 // What is printed.
-use audit::report::CountedMark;
 use audit::report::Report;
-use command::LossKind;
 use division::mark::Mark;
+use leaves::kind::LossKind;
 use std::io;
 
 const HELP: [&str; 9] = [

@@ -2,6 +2,7 @@
 pub mod admit;
 pub mod distances;
 pub mod gather;
+pub mod kind;
 pub mod model;
 pub mod squares;
 #[cfg(test)]

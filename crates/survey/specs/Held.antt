@@ -6,12 +6,12 @@ use Rattle.loss.specs.Table.{Table, Sound}
 use Rattle.leaves.specs.Readings.{table-of, lowest, square, distance, differs}
 use Rattle.leaves.specs.Held.{squares-readings, distances-readings, votes-readings}
 use Rattle.leaves.specs.Soundness.{squares-sound, distances-sound, votes-sound}
-use Rattle.survey.specs.declared.held.Kind.{Kind}
-use Rattle.survey.specs.declared.held.Kind.the-variants.{Squares, Distances, Votes}
+use Rattle.leaves.specs.declared.kind.LossKind.{LossKind}
+use Rattle.leaves.specs.declared.kind.LossKind.the-variants.{Squares, Distances, Votes}
 use Rattle.survey.specs.declared.held.Held.{Held}
 use Rattle.survey.specs.declared.held.Held.the-variants.{BySquares, ByDistances, ByVotes}
 
-abbrev pub kind-of : Held → Kind
+abbrev pub kind-of : Held → LossKind
 kind-of (BySquares s) = Squares
 kind-of (ByDistances s) = Distances
 kind-of (ByVotes s) = Votes

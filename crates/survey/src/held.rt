@@ -8,6 +8,7 @@ use leaves::distances::Distances;
 use leaves::distances::methods::DistancesLeaf;
 use leaves::distances::methods::DistancesLoss;
 use leaves::gather::gather;
+use leaves::kind::LossKind;
 use leaves::squares::Squares;
 use leaves::squares::methods::SquaresLeaf;
 use leaves::squares::methods::SquaresLoss;
@@ -15,13 +16,6 @@ use leaves::votes::Votes;
 use leaves::votes::methods::VotesLeaf;
 use leaves::votes::methods::VotesLoss;
 use loss::model::Loss;
-
-#[derive(Clone, Copy, PartialEq, Eq, Debug)]
-pub enum Kind {
-    Squares,
-    Distances,
-    Votes,
-}
 
 #[derive(Drop)]
 pub enum Held {
@@ -32,14 +26,14 @@ pub enum Held {
 
 impl Held {
     // No readings, under the loss of that kind.
-    pub fn new(kind: Kind) -> Held
+    pub fn new(kind: LossKind) -> Held
         ensures kind { λ r. ⌜ kind-of r ≡ kind ⌝ }
         ensures readings { λ r. ⌜ readings-of r ≡ [] ⌝ }
     {
         match kind {
-            Kind::Squares => Held::BySquares(Squares::new()),
-            Kind::Distances => Held::ByDistances(Distances::new()),
-            Kind::Votes => Held::ByVotes(Votes::new()),
+            LossKind::Squares => Held::BySquares(Squares::new()),
+            LossKind::Distances => Held::ByDistances(Distances::new()),
+            LossKind::Votes => Held::ByVotes(Votes::new()),
         }
     }
 

@@ -13,12 +13,12 @@ ghost use Rattle.survey.specs.Held.{table-of-held, readings-of, lowest-of, spa
 ghost use Rattle.survey.specs.Calls.{counted, shortest-refusal};
 use crate::held::Held;
 use crate::held::HeldLoss;
-use crate::held::Kind;
 use audit::price::price;
 use audit::report::Report;
 use division::mark::Mark;
 use fault::Failure;
 use fault::Fault;
+use leaves::kind::LossKind;
 use loss::model::Loss;
 use marks::lent::lay_in;
 use marks::lent::lift_in;
@@ -34,7 +34,7 @@ pub struct Survey {
 
 impl Survey {
     // No readings, no marks, and a shortest stretch of one reading.
-    pub fn new(kind: Kind) -> Survey
+    pub fn new(kind: LossKind) -> Survey
         ensures kind { λ r. ⌜ kind-of (r .held) ≡ kind ⌝ }
         ensures readings { λ r. ⌜ readings-of (r .held) ≡ [] ⌝ }
         ensures marks { λ r. ⌜ marks-of (r .marks) ≡ [] ⌝ }
