@@ -1,20 +1,22 @@
 -- The walks over the stretches of a division and over the marks: what is told so far, and what is left.
 use mathlib.Core.Path.{_≡_, refl, sym, ap, _∙_}
 use mathlib.Core.List.{List, [], _∷_, _++_, map, append-assoc}
-use mathlib.Core.Bool.{Bool}
+use mathlib.Core.Bool.{Bool, true}
 use Prim.Native.Nat.{ℕ, suc, _+_, _-_, _*_, _^_, _≤_, _<_}
 use native.Mathlib.Nat.{mul-le-mul, mul-le-mul-left, mul-add}
 use native.Mathlib.Omega.{arith}
+use lib.Dec.{ltb}
 use lib.ListN.{length, getD, take, drop}
 use Rattle.std.proofs.shelf.Lists.{drop-more, drop-all, take-more, map-push}
-use Rattle.std.proofs.shelf.Ways.{tells}
+use Rattle.std.proofs.shelf.Ways.{tells, decides-ltb}
 use Rattle.std.specs.declared.option.Option.the-variants.{None}
 use Rattle.std.specs.declared.result.Result.{Result}
 use Rattle.std.specs.declared.result.Result.the-variants.{Ok, Err}
 use Rattle.fault.specs.declared.Fault.{Fault}
 use Rattle.loss.specs.Table.{Table, Sound, answer}
-use Rattle.division.specs.Division.{Each-stretch, Division, sum-stretches, loss}
+use Rattle.division.specs.Division.{Each-stretch, Division, division, sum-stretches, loss}
 use Rattle.division.proofs.Listed.{below}
+use Rattle.division.proofs.Tested.{decides-each}
 use Rattle.division.specs.declared.mark.Mark.{Mark}
 use Rattle.division.specs.Marks.{boundaries-in, obeys}
 use Rattle.audit.specs.declared.report.CountedMark.{CountedMark}
@@ -60,9 +62,9 @@ abbrev stretch-of : ℕ → ℕ → ℕ → PricedStretch
 stretch-of a b c = record { start = a; end = b; loss = c }
 
 pub again :
-    (t : Table) (ds : List ℕ) (i start sum : ℕ) (items : List PricedStretch) (c : ℕ) → Sound t → t .ceiling ≤ 2 ^ 40 → i < length ds → Along t ds i start sum items → Ok c ≡ answer t start (getD ds i 0) →
-    Along t ds (i + 1) (getD ds i 0) (sum + c) (items ++ stretch-of start (getD ds i 0) c ∷ [])
-again t ds i start sum items c sound light h l e =
+    (t : Table) (ds : List ℕ) (i start sum : ℕ) (items more : List PricedStretch) (c : ℕ) → Sound t → t .ceiling ≤ 2 ^ 40 → i < length ds → Along t ds i start sum items → Ok c ≡ answer t start (getD ds i 0) →
+    more ≡ items ++ stretch-of start (getD ds i 0) c ∷ [] → Along t ds (i + 1) (getD ds i 0) (sum + c) more
+again t ds i start sum items more c sound light h l e grown =
     let r = next-rises t ds i start sum items h l in
     let w = next-within t ds i start sum items h l in
     let d = getD ds i 0 in
@@ -71,7 +73,8 @@ again t ds i start sum items c sound light h l e =
     record {
       rises = r .1;
       rest =
-          append-assoc items (stretch-of start d c ∷ []) (priced (t .loss) (t .length) d (drop (i + 1) ds))
+          ap (λ (xs : List PricedStretch). xs ++ priced (t .loss) (t .length) d (drop (i + 1) ds)) grown
+          ∙ append-assoc items (stretch-of start d c ∷ []) (priced (t .loss) (t .length) d (drop (i + 1) ds))
           ∙ ap (λ (x : ℕ). items ++ stretch-of start d x ∷ priced (t .loss) (t .length) d (drop (i + 1) ds)) q
           ∙ rw m at (l .rest);
       adds = let k = rw m at (l .adds) in omega (arith, q, k);
@@ -83,14 +86,14 @@ pub last-rises : (t : Table) (ds : List ℕ) (i start sum : ℕ) (items : List P
 last-rises t ds i start sum items h l = rw (drop-all i ds h) at (l .rises)
 
 pub ended :
-    (t : Table) (ds : List ℕ) (i start sum : ℕ) (items : List PricedStretch) (b c : ℕ) → Sound t → t .ceiling ≤ 2 ^ 40 → length ds ≤ i → Along t ds i start sum items → b ≡ t .length → Ok c ≡ answer t start b →
-    (items ++ stretch-of start b c ∷ [] ≡ priced (t .loss) (t .length) 0 ds) × (sum + c ≡ loss (t .loss) (t .length) ds) × (sum + c ≤ 2 ^ 40 * t .length)
-ended t ds i start sum items b c sound light h l e a =
+    (t : Table) (ds : List ℕ) (i start sum : ℕ) (items more : List PricedStretch) (b c : ℕ) → Sound t → t .ceiling ≤ 2 ^ 40 → length ds ≤ i → Along t ds i start sum items → b ≡ t .length → Ok c ≡ answer t start b → more ≡ items ++ stretch-of start b c ∷ [] →
+    (more ≡ priced (t .loss) (t .length) 0 ds) × (sum + c ≡ loss (t .loss) (t .length) ds) × (sum + c ≤ 2 ^ 40 * t .length)
+ended t ds i start sum items more b c sound light h l e a grown =
     let lt = last-rises t ds i start sum items h l in
     let q : c ≡ t .loss start b = priced-at t start b c light (omega (arith, e)) (omega (arith, e)) a in
     let last : c ≡ t .loss start (t .length) = q ∙ ap (t .loss start) e in
     let k = rw (drop-all i ds h) at (l .adds) in (
-      ap (λ (x : ℕ). items ++ stretch-of start b x ∷ []) last ∙ ap (λ (x : ℕ). items ++ stretch-of start x (t .loss start (t .length)) ∷ []) e ∙ rw (drop-all i ds h) at (l .rest),
+      grown ∙ ap (λ (x : ℕ). items ++ stretch-of start b x ∷ []) last ∙ ap (λ (x : ℕ). items ++ stretch-of start x (t .loss start (t .length)) ∷ []) e ∙ rw (drop-all i ds h) at (l .rest),
       omega (arith, last, k),
       omega (arith, last, l .small, stretch-bound t sound start (t .length) light lt (omega arith)),
     )
@@ -102,6 +105,10 @@ few-boundaries n a (b ∷ ds) h = omega (arith, h .0, few-boundaries n b ds (h .
 
 pub penalties-bound : (p n : ℕ) (ds : List ℕ) → p ≤ 2 ^ 49 → n ≤ 512 → Division n ds → p * length ds ≤ 2 ^ 49 * 511
 penalties-bound p n ds h few d = let l : length ds ≤ 511 = omega (arith, few-boundaries n 0 ds d) in mul-le-mul h l
+
+-- the test of the gaps says that they are a division
+pub is-division : (n m : ℕ) (ds : List ℕ) → m ≡ n → true ≡ division m ds → Division n ds
+is-division n m ds e h = decides-each ltb (λ a b. a < b) decides-ltb n 0 ds .0 (rw e at (sym h))
 
 -- what an opened line tells of its loss
 pub opened : (t : Table) → opening-refusal t ≡ None → (t .ceiling ≤ 2 ^ 40) × (t .length ≤ 512)

@@ -9,7 +9,7 @@ abbrev pub fault-name : Fault → List ℕ
 fault-name MalformedLine = codes "malformed line"
 fault-name UnknownFrame = codes "unknown kind, or a length that does not fit it"
 fault-name ReadingOutOfRange = codes "reading outside its loss's range"
-fault-name BadMark = codes "mark outside the line"
+fault-name BadMark = codes "mark that cannot stand on this line"
 fault-name BadShortest = codes "shortest stretch outside the line"
 fault-name BadPenalty = codes "penalty above 2^49"
 fault-name BadCount = codes "count above the number of gaps"

@@ -62,7 +62,7 @@ impl Fault {
             Fault::MalformedLine => "malformed line",
             Fault::UnknownFrame => "unknown kind, or a length that does not fit it",
             Fault::ReadingOutOfRange => "reading outside its loss's range",
-            Fault::BadMark => "mark outside the line",
+            Fault::BadMark => "mark that cannot stand on this line",
             Fault::BadShortest => "shortest stretch outside the line",
             Fault::BadPenalty => "penalty above 2^49",
             Fault::BadCount => "count above the number of gaps",

@@ -5,7 +5,5 @@ pub mod gather;
 pub mod kind;
 pub mod model;
 pub mod squares;
-#[cfg(test)]
-mod tests;
 pub mod theorems;
 pub mod votes;

@@ -18,14 +18,14 @@ returns-in-Break-lost g c =
 pub add-sum : need.add-sum
 add-sum g c =
     let t = g .L·Loss .table (c .args .loss .now) in
-    let l = again t (c .args .gaps .now) (c .loop-gap .gap-index) (c .loop-gap .start) (c .loop-gap .sum) (vec-items (c .loop-gap .stretches)) (c .in-Continue-lost .lost) (g .L·Loss .sound (c .args .loss .now)) (c .pre .light) (c .loop-gap-test .taken) (c .loop-gap .inv) (c .in-Continue-lost .ensures tt) in
+    let l = again t (c .args .gaps .now) (c .loop-gap .gap-index) (c .loop-gap .start) (c .loop-gap .sum) (vec-items (c .loop-gap .stretches)) (vec-items (c .push .last .self)) (c .in-Continue-lost .lost) (g .L·Loss .sound (c .args .loss .now)) (c .pre .light) (c .loop-gap-test .taken) (c .loop-gap .inv) (c .in-Continue-lost .ensures tt) (c .in-Continue-push .ensures tt .items) in
     omega (arith, l .small, c .typed .gaps (c .loop-gap .gap-index))
 
 pub loop-gap-again : need.loop-gap-again
 loop-gap-again g c =
     let t = g .L·Loss .table (c .args .loss .now) in
-    let l = again t (c .args .gaps .now) (c .loop-gap .gap-index) (c .loop-gap .start) (c .loop-gap .sum) (vec-items (c .loop-gap .stretches)) (c .in-Continue-lost .lost) (g .L·Loss .sound (c .args .loss .now)) (c .pre .light) (c .loop-gap-test .taken) (c .loop-gap .inv) (c .in-Continue-lost .ensures tt) in
-    rw (c .in-Continue-push .ensures tt .items) l
+    let l = again t (c .args .gaps .now) (c .loop-gap .gap-index) (c .loop-gap .start) (c .loop-gap .sum) (vec-items (c .loop-gap .stretches)) (vec-items (c .push .last .self)) (c .in-Continue-lost .lost) (g .L·Loss .sound (c .args .loss .now)) (c .pre .light) (c .loop-gap-test .taken) (c .loop-gap .inv) (c .in-Continue-lost .ensures tt) (c .in-Continue-push .ensures tt .items) in
+    l
 
 pub returns-in-Break-lost-2 : need.returns-in-Break-lost-2
 returns-in-Break-lost-2 g c =
@@ -36,11 +36,11 @@ returns-in-Break-lost-2 g c =
 pub add-result : need.add-result
 add-result g c =
     let t = g .L·Loss .table (c .args .loss .now) in
-    let e = ended t (c .args .gaps .now) (c .loop-gap .gap-index) (c .loop-gap .start) (c .loop-gap .sum) (vec-items (c .loop-gap .stretches)) (c .length-end .result) (c .in-Continue-lost-2 .lost) (g .L·Loss .sound (c .args .loss .now)) (c .pre .light) (c .loop-gap-test .left) (c .loop-gap .inv) (c .length-end .ensures) (c .in-Continue-lost-2 .ensures tt) in
+    let e = ended t (c .args .gaps .now) (c .loop-gap .gap-index) (c .loop-gap .start) (c .loop-gap .sum) (vec-items (c .loop-gap .stretches)) (vec-items (c .push-2 .last .self)) (c .length-end .result) (c .in-Continue-lost-2 .lost) (g .L·Loss .sound (c .args .loss .now)) (c .pre .light) (c .loop-gap-test .left) (c .loop-gap .inv) (c .length-end .ensures) (c .in-Continue-lost-2 .ensures tt) (c .in-Continue-push-2 .ensures tt .items) in
     omega (arith, e .2, g .L·Loss .sound (c .args .loss .now) .short)
 
 pub returns : need.returns
 returns g c =
     let t = g .L·Loss .table (c .args .loss .now) in
-    let e = ended t (c .args .gaps .now) (c .loop-gap .gap-index) (c .loop-gap .start) (c .loop-gap .sum) (vec-items (c .loop-gap .stretches)) (c .length-end .result) (c .in-Continue-lost-2 .lost) (g .L·Loss .sound (c .args .loss .now)) (c .pre .light) (c .loop-gap-test .left) (c .loop-gap .inv) (c .length-end .ensures) (c .in-Continue-lost-2 .ensures tt) in
-    record { stretches = c .in-Continue-push-2 .ensures tt .items ∙ e .0; loss = e .1; bound = e .2 }
+    let e = ended t (c .args .gaps .now) (c .loop-gap .gap-index) (c .loop-gap .start) (c .loop-gap .sum) (vec-items (c .loop-gap .stretches)) (vec-items (c .push-2 .last .self)) (c .length-end .result) (c .in-Continue-lost-2 .lost) (g .L·Loss .sound (c .args .loss .now)) (c .pre .light) (c .loop-gap-test .left) (c .loop-gap .inv) (c .length-end .ensures) (c .in-Continue-lost-2 .ensures tt) (c .in-Continue-push-2 .ensures tt .items) in
+    record { stretches = e .0; loss = e .1; bound = e .2 }

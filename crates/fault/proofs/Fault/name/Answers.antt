@@ -13,3 +13,6 @@ returns-in-TooManyMarks c = ap fault-name (sym (c .in-TooManyMarks .is))
 
 pub returns-in-NoSuchMark : need.returns-in-NoSuchMark
 returns-in-NoSuchMark c = ap fault-name (sym (c .in-NoSuchMark .is))
+
+pub returns-in-BadMark : need.returns-in-BadMark
+returns-in-BadMark c = ap fault-name (sym (c .in-BadMark .is))

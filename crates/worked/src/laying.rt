@@ -1,13 +1,13 @@
 // Marks that meet, marks that share a gap, a full table, and a mark lifted from the middle.
-use crate::lent::lay_in;
-use crate::lent::lift_in;
-use crate::table::MarkTable;
 use division::mark::Mark;
 use division::mark::MarkDebug;
 use division::mark::MarkPartialEq;
 use fault::Fault;
 use fault::FaultDebug;
 use fault::FaultPartialEq;
+use marks::lent::lay_in;
+use marks::lent::lift_in;
+use marks::table::MarkTable;
 use std::test::*;
 
 fn mark(first: u16, last: u16, boundaries: u8) -> Mark {

@@ -1,18 +1,18 @@
 // What the three losses take and answer on short lines of readings.
-use crate::distances::Distances;
-use crate::distances::methods::DistancesLeaf;
-use crate::distances::methods::DistancesLoss;
-use crate::gather::gather;
-use crate::model::Leaf;
-use crate::squares::Squares;
-use crate::squares::methods::SquaresLeaf;
-use crate::squares::methods::SquaresLoss;
-use crate::votes::Votes;
-use crate::votes::methods::VotesLeaf;
-use crate::votes::methods::VotesLoss;
 use fault::Fault;
 use fault::FaultDebug;
 use fault::FaultPartialEq;
+use leaves::distances::Distances;
+use leaves::distances::methods::DistancesLeaf;
+use leaves::distances::methods::DistancesLoss;
+use leaves::gather::gather;
+use leaves::model::Leaf;
+use leaves::squares::Squares;
+use leaves::squares::methods::SquaresLeaf;
+use leaves::squares::methods::SquaresLoss;
+use leaves::votes::Votes;
+use leaves::votes::methods::VotesLeaf;
+use leaves::votes::methods::VotesLoss;
 use loss::model::Loss;
 use std::test::*;
 
