@@ -15,7 +15,7 @@ use Rattle.std.specs.declared.result.Result.the-variants.{Ok, Err}
 use Rattle.fault.specs.declared.Fault.{Fault}
 use Rattle.loss.specs.Table.{Table, Sound, answer}
 use Rattle.division.specs.Division.{Each-stretch, Division, division, sum-stretches, loss}
-use Rattle.division.proofs.Listed.{below}
+use Rattle.division.proofs.Listed.{below, few-boundaries}
 use Rattle.division.proofs.Tested.{decides-each}
 use Rattle.division.specs.declared.mark.Mark.{Mark}
 use Rattle.division.specs.Marks.{boundaries-in, obeys}
@@ -97,11 +97,6 @@ ended t ds i start sum items more b c sound light h l e a grown =
       omega (arith, last, k),
       omega (arith, last, l .small, stretch-bound t sound start (t .length) light lt (omega arith)),
     )
-
--- a division has fewer boundaries than the line has readings
-pub few-boundaries : (n a : ℕ) (ds : List ℕ) → Each-stretch (λ a b. a < b) n a ds → a + length ds < n
-few-boundaries n a [] h = omega arith
-few-boundaries n a (b ∷ ds) h = omega (arith, h .0, few-boundaries n b ds (h .1))
 
 pub penalties-bound : (p n : ℕ) (ds : List ℕ) → p ≤ 2 ^ 49 → n ≤ 512 → Division n ds → p * length ds ≤ 2 ^ 49 * 511
 penalties-bound p n ds h few d = let l : length ds ≤ 511 = omega (arith, few-boundaries n 0 ds d) in mul-le-mul h l

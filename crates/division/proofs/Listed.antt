@@ -4,6 +4,7 @@ use mathlib.Core.Logic.{_⊎_, inl, inr}
 use mathlib.Core.List.{List, [], _∷_, _++_, map}
 use Prim.Native.Nat.{ℕ, zero, suc, _+_, _≤_, _<_}
 use native.Mathlib.Omega.{arith}
+use lib.ListN.{length}
 use Rattle.std.proofs.shelf.Tests.{cases-order}
 use Rattle.division.specs.Division.{Each-stretch, Division, choices, all-divisions}
 use Rattle.division.specs.Theorems.{In, All-listed}
@@ -25,6 +26,11 @@ in-map f x (y ∷ xs) (inr h) = inr (in-map f x xs h)
 pub below : (n a : ℕ) (ds : List ℕ) → Each-stretch (λ x y. x < y) n a ds → a < n
 below n a [] h = h
 below n a (b ∷ ds) h = let k : b < n = below n b ds (h .1) in omega arith
+
+-- a division has fewer boundaries than the line has readings
+pub few-boundaries : (n a : ℕ) (ds : List ℕ) → Each-stretch (λ x y. x < y) n a ds → a + length ds < n
+few-boundaries n a [] h = omega arith
+few-boundaries n a (b ∷ ds) h = omega (arith, h .0, few-boundaries n b ds (h .1))
 
 -- ds is empty, or its first gap is g or later
 abbrev From : ℕ → ℕ → List ℕ → Type 0

@@ -60,7 +60,7 @@ module _ (cost : List ℕ → ℕ) where
       go (inr (inr q)) (inr h) = inr (inr (inl q))
 
 -- `Later` in words
-later-short : (d e : List ℕ) → length d < length e → Later d e
+pub later-short : (d e : List ℕ) → length d < length e → Later d e
 later-short [] [] h = absurd (omega arith)
 later-short [] (y ∷ ys) h = tt
 later-short (x ∷ xs) [] h = absurd (omega arith)
