@@ -22,7 +22,7 @@ use Rattle.std.proofs.shelf.Ways.{tells}
 use Rattle.leaves.specs.declared.kind.LossKind.the-variants.{Squares, Distances, Votes}
 use Rattle.command.specs.Words.{blank, legible, all-legible, words}
 use Rattle.command.specs.Numbers.{decimal, natural, integer, reading}
-use Rattle.command.specs.Said.{Said, nothing, help, loss, readings, mark, unmark, shortest, price}
+use Rattle.command.specs.Said.{Said, nothing, help, loss, readings, mark, unmark, shortest, price, best-by-penalty, best-by-count, path}
 use Rattle.command.specs.Line.{and-then, number, read-all, read-words, read-line}
 use Rattle.command.specs.Theorems.{spaced, written, In-range, Commands-stand}
 use Rattle.command.proofs.Printed.{Printable, Writes, printed-writes}
@@ -153,3 +153,10 @@ commands-stand (price penalty gaps) fits short =
     let b : read-all (natural 16) (map digits-of gaps) ≡ Some gaps = gaps-back gaps (fits .1) in
     line-is (written (price penalty gaps)) (literal (codes "price") refl (lit< tt), (plain-digits penalty (fits .0), (literal (codes "at") refl (lit< tt), plain-gaps gaps (fits .1)))) short
     ∙ rw (a, b)
+commands-stand (best-by-penalty penalty) fits short =
+    let e : natural 64 (digits-of penalty) ≡ Some penalty = natural-back 64 penalty (omega arith) fits in
+    line-is (written (best-by-penalty penalty)) (literal (codes "best") refl (lit< tt), (plain-digits penalty fits, tt)) short ∙ rw e
+commands-stand (best-by-count count) fits short =
+    let e : natural 16 (digits-of count) ≡ Some count = natural-back 16 count (omega arith) (omega arith) in
+    line-is (written (best-by-count count)) (literal (codes "best") refl (lit< tt), (literal (codes "count") refl (lit< tt), (plain-digits count (omega arith), tt))) short ∙ rw e
+commands-stand path fits short = line-is (written path) (literal (codes "path") refl (lit< tt), tt) short

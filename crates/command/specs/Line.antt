@@ -15,7 +15,7 @@ use Rattle.fault.specs.declared.Fault.the-variants.{MalformedLine, UnknownFrame
 use Rattle.leaves.specs.declared.kind.LossKind.the-variants.{Squares, Distances, Votes}
 use Rattle.command.specs.Words.{words, all-legible}
 use Rattle.command.specs.Numbers.{natural, reading}
-use Rattle.command.specs.Said.{Said, nothing, help, loss, readings, mark, unmark, shortest, price}
+use Rattle.command.specs.Said.{Said, nothing, help, loss, readings, mark, unmark, shortest, price, best-by-penalty, best-by-count, path}
 
 -- one step after another, up to the first refusal
 abbrev pub and-then : {X Y : Type 0} → Result X Fault → (X → Result Y Fault) → Result Y Fault
@@ -95,6 +95,13 @@ to-price [] = Err UnknownFrame
 to-price (p ∷ ws) =
     and-then (behind-at ws) (λ gaps. and-then (number (natural 64 p)) (λ penalty. and-then (number (read-all (natural 16) gaps)) (λ all. Ok (price penalty all))))
 
+-- best PENALTY, or best count COUNT
+abbrev pub to-best : List (List ℕ) → Result Said Fault
+to-best [] = Err UnknownFrame
+to-best (p ∷ []) = and-then (number (natural 64 p)) (λ penalty. Ok (best-by-penalty penalty))
+to-best (w ∷ k ∷ []) = cond (sameBytes w (codes "count")) (and-then (number (natural 16 k)) (λ count. Ok (best-by-count count))) (Err UnknownFrame)
+to-best (w ∷ k ∷ x ∷ ws) = Err UnknownFrame
+
 -- the first word names the command; '#' begins a comment
 abbrev pub by-name : List ℕ → List (List ℕ) → Result Said Fault
 by-name name ws =
@@ -105,7 +112,9 @@ by-name name ws =
     (cond (sameBytes name (codes "mark")) (to-mark ws)
     (cond (sameBytes name (codes "unmark")) (to-unmark ws)
     (cond (sameBytes name (codes "shortest")) (to-shortest ws)
-    (cond (sameBytes name (codes "price")) (to-price ws) (Err UnknownFrame))))))))
+    (cond (sameBytes name (codes "price")) (to-price ws)
+    (cond (sameBytes name (codes "best")) (to-best ws)
+    (cond (sameBytes name (codes "path")) (alone path ws) (Err UnknownFrame))))))))))
 
 abbrev pub read-words : List (List ℕ) → Result Said Fault
 read-words [] = Ok nothing

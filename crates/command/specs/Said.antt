@@ -12,7 +12,7 @@ use Rattle.fault.specs.declared.Failure.the-variants.{Refused, OutOfMemory}
 use Rattle.division.specs.declared.mark.Mark.{Mark as Marked}
 use Rattle.leaves.specs.declared.kind.LossKind.{LossKind}
 use Rattle.command.specs.declared.Command.{Command}
-use Rattle.command.specs.declared.Command.the-variants.{Nothing, Help, Loss, Readings, Mark, Unmark, Shortest, Price}
+use Rattle.command.specs.declared.Command.the-variants.{Nothing, Help, Loss, Readings, Mark, Unmark, Shortest, Price, BestByPenalty, BestByCount, Path}
 
 pub data Said : Type 0 where
   nothing : Said
@@ -23,6 +23,9 @@ pub data Said : Type 0 where
   unmark : ℕ → Said
   shortest : ℕ → Said
   price : ℕ → List ℕ → Said
+  best-by-penalty : ℕ → Said
+  best-by-count : ℕ → Said
+  path : Said
 
 -- what a command says, with a list for each vector
 abbrev pub said : Command → Said
@@ -34,6 +37,9 @@ said (Mark m) = mark m
 said (Unmark first) = unmark first
 said (Shortest m) = shortest m
 said (Price penalty gaps) = price penalty (vec-items gaps)
+said (BestByPenalty penalty) = best-by-penalty penalty
+said (BestByCount count) = best-by-count count
+said Path = path
 
 -- the code answers what is due: the value, or the refusal, unless memory is wanting
 abbrev pub Answers : {T X : Type 0} → (T → X) → Result X Fault → Result T Failure → Type 0

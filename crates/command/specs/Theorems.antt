@@ -15,7 +15,7 @@ use Rattle.leaves.specs.declared.kind.LossKind.{LossKind}
 use Rattle.leaves.specs.declared.kind.LossKind.the-variants.{Squares, Distances, Votes}
 use Rattle.command.specs.Words.{blank, words}
 use Rattle.command.specs.Numbers.{decimal}
-use Rattle.command.specs.Said.{Said, nothing, help, loss, readings, mark, unmark, shortest, price}
+use Rattle.command.specs.Said.{Said, nothing, help, loss, readings, mark, unmark, shortest, price, best-by-penalty, best-by-count, path}
 use Rattle.command.specs.Line.{read-line}
 
 -- words with one space between neighbours
@@ -47,6 +47,9 @@ written (mark m) = codes "mark" ∷ digits-of (m .first) ∷ digits-of (m .last)
 written (unmark first) = codes "unmark" ∷ digits-of first ∷ []
 written (shortest m) = codes "shortest" ∷ digits-of m ∷ []
 written (price penalty gaps) = codes "price" ∷ digits-of penalty ∷ codes "at" ∷ map digits-of gaps
+written (best-by-penalty penalty) = codes "best" ∷ digits-of penalty ∷ []
+written (best-by-count count) = codes "best" ∷ codes "count" ∷ digits-of count ∷ []
+written path = codes "path" ∷ []
 
 -- its numbers fit their types, and there are readings
 abbrev pub In-range : Said → Type 0
@@ -58,6 +61,9 @@ In-range (mark m) = (m .first < 2 ^ 16) × (m .last < 2 ^ 16) × (m .boundaries 
 In-range (unmark first) = first < 2 ^ 16
 In-range (shortest m) = m < 2 ^ 16
 In-range (price penalty gaps) = (penalty < 2 ^ 64) × All (λ gap. gap < 2 ^ 16) gaps
+In-range (best-by-penalty penalty) = penalty < 2 ^ 64
+In-range (best-by-count count) = count < 2 ^ 16
+In-range path = Unit {0}
 
 -- every command can be written, and is read as it was written
 abbrev pub Commands-stand : Type 0

@@ -32,6 +32,12 @@ pub enum Command {
     Shortest(u16),
     // price PENALTY, or price PENALTY at GAP GAP ..
     Price { penalty: u64, gaps: Vec<u16> },
+    // best PENALTY
+    BestByPenalty(u64),
+    // best count COUNT
+    BestByCount(u16),
+    // path
+    Path,
 }
 
 // The most bytes of a line.

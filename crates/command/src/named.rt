@@ -7,7 +7,7 @@ ghost use Rattle.std.specs.Of.Vec.{vec-items};
 ghost use Rattle.std.specs.Results.{Cases};
 ghost use Rattle.std.specs.declared.result.Result.the-variants.{Ok, Err};
 ghost use Rattle.command.specs.Words.{words};
-ghost use Rattle.command.specs.Line.{number, read-all, alone, one, three, to-loss, to-readings, to-mark, to-unmark, to-shortest, behind-at, to-price, by-name};
+ghost use Rattle.command.specs.Line.{number, read-all, alone, one, three, to-loss, to-readings, to-mark, to-unmark, to-shortest, behind-at, to-price, to-best, by-name};
 ghost use Rattle.command.specs.Said.{Answers, said};
 use crate::Command;
 use crate::number::Field;
@@ -180,6 +180,25 @@ fn price(heap: Global, text: &[u8]) -> Result<Command, Failure>
     Ok(Command::Price { penalty, gaps })
 }
 
+// best PENALTY, or best count COUNT
+fn best(text: &[u8]) -> Result<Command, Failure>
+    ensures { λ r. ⌜ Answers said (to-best (words (now (text .entry)))) r ⌝ }
+{
+    let Some((word, rest)) = next_word(text) else {
+        return Err(Failure::Refused(Fault::UnknownFrame));
+    };
+    if next_word(rest).is_none() {
+        let penalty = field(word)?;
+        return Ok(Command::BestByPenalty(penalty));
+    }
+    let last = one(rest)?;
+    if !is(word, b"count") {
+        return Err(Failure::Refused(Fault::UnknownFrame));
+    }
+    let count = field(last)?;
+    Ok(Command::BestByCount(count))
+}
+
 // The command of that name, with the words of the text.
 pub fn command(heap: Global, name: &[u8], text: &[u8]) -> Result<Command, Failure>
     ensures { λ r. ⌜ Answers said (by-name (now (name .entry)) (words (now (text .entry)))) r ⌝ }
@@ -200,6 +219,10 @@ pub fn command(heap: Global, name: &[u8], text: &[u8]) -> Result<Command, Failur
         shortest(text)
     } else if is(name, b"price") {
         price(heap, text)
+    } else if is(name, b"best") {
+        best(text)
+    } else if is(name, b"path") {
+        alone(Command::Path, text)
     } else {
         Err(Failure::Refused(Fault::UnknownFrame))
     }
