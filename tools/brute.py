@@ -31,6 +31,9 @@ mark FIRST LAST BOUNDARIES        exactly 0 or 1 of the gaps FIRST to LAST - 1 i
 unmark FIRST                      lift the mark that begins at reading FIRST
 shortest M                        every stretch holds at least M readings
 price PENALTY at GAP GAP ..       check the division with these boundaries
+best PENALTY                      the cheapest allowed division at that penalty for each boundary
+best count COUNT                  the cheapest allowed division with so many boundaries
+path                              for every penalty, how many boundaries are best
 help                              print this list
 # ..                              a comment
 Gap i lies between reading i and reading i + 1."""
@@ -204,10 +207,54 @@ def price(line, words):
     out.append(f"  shortest {line.shortest}: {long}")
     out.append(f"  loss {loss}, total {loss + penalty * len(gaps)}")
     out.append("  allowed" if line.allowed(gaps) else "  not allowed")
+    out.append("  " + compared(line, penalty, gaps))
     return out
 
 
-CALLS = {"readings": readings, "mark": lay, "unmark": lift, "shortest": set_shortest, "price": price}
+def shown(gaps):
+    return "boundaries " + " ".join(map(str, gaps)) if gaps else "no boundary"
+
+
+def compared(line, penalty, gaps):
+    try:
+        best = line.winner(penalty)
+    except Refused:
+        return "no division is allowed"
+    if best == gaps:
+        return "the winner"
+    total = line.division_loss(best) + penalty * len(best)
+    more = line.division_loss(gaps) + penalty * len(gaps) - total
+    difference = f"{more} less" if more >= 0 else f"{-more} more"
+    return f"the winner has {shown(best)}, total {total}: {difference}"
+
+
+def best(line, words):
+    by_count = len(words) == 2 and words[0] == "count"
+    if len(words) != 1 and not by_count:
+        raise Refused(12)
+    number = natural(words[-1], 16 if by_count else 64)
+    if by_count and number > len(line.readings) - 1:
+        raise Refused(17)
+    if not by_count and number > LARGEST_PENALTY:
+        raise Refused(16)
+    check_opening(line)
+    if by_count:
+        gaps = line.winner_of_count(number)
+        return [f"best count {number}: {shown(gaps)}, total {line.division_loss(gaps)}"]
+    gaps = line.winner(number)
+    return [f"best {number}: {shown(gaps)}, total {line.division_loss(gaps) + number * len(gaps)}"]
+
+
+def path(line, words):
+    if words:
+        raise Refused(12)
+    check_opening(line)
+    steps = line.path()
+    out = [f"path: {len(steps)} in all"]
+    return out + [f"  from penalty {p}: {k} boundaries, loss {loss}" for p, k, loss in steps]
+
+
+CALLS = {"readings": readings, "mark": lay, "unmark": lift, "shortest": set_shortest, "price": price, "best": best, "path": path}
 
 
 def answer(state, text):

@@ -38,6 +38,8 @@ def line_of_commands(rng):
             gaps = [number(rng, n) for _ in range(rng.randint(1, 3))]
         penalty = rng.choice([0, 1, 2, 7, 40, 2**49, 2**49 + 1])
         out.append(" ".join([f"price {penalty} at"] + [str(g) for g in gaps]))
+        out.append(rng.choice([f"best {penalty}", f"best {rng.randint(0, 30)}", f"best count {number(rng, n)}"]))
+    out.append("path")
     return out
 
 
