@@ -26,6 +26,7 @@ all-more P xs items i d e lt =
 pub all-marks : (marks items : List Mark) (i m n a b : ℕ) → items ≡ marks → length items ≤ i
     → ((a < b) × (a + m ≤ b) × All (Permits n a b) (take i marks)) ↔ Permitted marks m n a b
 all-marks marks items i m n a b e le =
-    let whole : take i marks ≡ marks = take-all i marks (omega (arith, ap length e)) in
-    (λ h. record { rises = h .0; long = h .1; marked = subst (All (Permits n a b)) whole (h .2) },
-     λ h. (h .rises, h .long, subst (All (Permits n a b)) (sym whole) (h .marked)))
+    let whole : take i marks ≡ marks = take-all i marks (omega (arith, ap length e)) in (
+      λ h. record { rises = h .0; long = h .1; marked = subst (All (Permits n a b)) whole (h .2) },
+      λ h. (h .rises, h .long, subst (All (Permits n a b)) (sym whole) (h .marked)),
+    )

@@ -29,11 +29,25 @@ fn narrow(range: StartRange, mark: Mark, n: u16, end: u16) -> StartRange
 {
     let StartRange { first, past } = range;
     if mark.boundaries == 0 {
-        if end < n && mark.first <= end && end < mark.last { StartRange { first: 0, past: 0 } } else { range }
+        if end < n && mark.first <= end && end < mark.last {
+            StartRange { first: 0, past: 0 }
+        } else {
+            range
+        }
     } else if mark.last <= end || end >= n {
-        if mark.first > first { StartRange { first: mark.first, past } } else { range }
+        if mark.first > first {
+            StartRange {
+                first: mark.first,
+                past,
+            }
+        } else {
+            range
+        }
     } else if mark.first < past {
-        StartRange { first, past: mark.first }
+        StartRange {
+            first,
+            past: mark.first,
+        }
     } else {
         range
     }
@@ -49,10 +63,17 @@ impl Constraints {
         if shortest > end {
             return StartRange { first: 0, past: 0 };
         }
-        let mut range = StartRange { first: 0, past: end - shortest + 1 };
+        let mut range = StartRange {
+            first: 0,
+            past: end - shortest + 1,
+        };
         for mark in self.marks.as_slice() {
             range = narrow(range, *mark, self.n, end);
         }
-        if range.first < range.past { range } else { StartRange { first: 0, past: 0 } }
+        if range.first < range.past {
+            range
+        } else {
+            StartRange { first: 0, past: 0 }
+        }
     }
 }

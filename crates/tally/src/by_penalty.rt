@@ -55,7 +55,11 @@ pub impl Tally for ByPenalty as PenaltyTally {
 
     fn load(&self, rows: &[u64], i: usize) -> Option<(u64, u64)> {
         let x = rows[2 * i];
-        if x == u64::MAX { None } else { Some((x, rows[2 * i + 1])) }
+        if x == u64::MAX {
+            None
+        } else {
+            Some((x, rows[2 * i + 1]))
+        }
     }
 
     fn put(&self, rows: &mut [u64], i: usize, v: Option<(u64, u64)>)
