@@ -1,0 +1,3 @@
+// The best allowed division of a line, by penalty and by count.
+pub mod cuts;
+mod refusal;
