@@ -1,2 +1,3 @@
+pub mod Best
 pub mod Calls
 pub mod Held

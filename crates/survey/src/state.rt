@@ -8,6 +8,11 @@ ghost use Rattle.fault.specs.Refusal.{Failed-for, unless};
 ghost use Rattle.leaves.specs.Taking.{gathered, after-all};
 ghost use Rattle.marks.specs.Marks.{laid, lifted, lay-refusal, lift-refusal};
 ghost use Rattle.marks.specs.Table.{marks-of};
+ghost use denote.Ref.{name};
+ghost use Rattle.list.specs.Entries.{places};
+ghost use Rattle.division.specs.Winner.{by-penalty, by-count, total as total-of};
+ghost use Rattle.cuts.specs.Outcome.{penalty-refusal, count-refusal, Cut};
+ghost use Rattle.survey.specs.Best.{best-division};
 ghost use Rattle.audit.specs.Priced.{price-refusal, Told};
 ghost use Rattle.survey.specs.Held.{table-of-held, readings-of, lowest-of, span-of, kind-of};
 ghost use Rattle.survey.specs.Calls.{counted, shortest-refusal};
@@ -15,10 +20,13 @@ use crate::held::Held;
 use crate::held::HeldLoss;
 use audit::price::price;
 use audit::report::Report;
+use cuts::cuts::cut_by_count;
+use cuts::cuts::cut_by_penalty;
 use division::mark::Mark;
 use fault::Failure;
 use fault::Fault;
 use leaves::kind::LossKind;
+use list::List;
 use loss::model::Loss;
 use marks::lent::lay_in;
 use marks::lent::lift_in;
@@ -112,6 +120,60 @@ impl Survey {
         ensures { λ r. ⌜ r ≡ now (self .entry) .shortest ⌝ }
     {
         self.shortest
+    }
+
+    // The cheapest allowed division at a penalty for each boundary: its boundaries into the list, and its total.
+    pub fn best_by_penalty(
+        &self,
+        penalty: u64,
+        numbers: &mut [u64],
+        trace: &mut [u16],
+        boundaries: &mut List<u16>,
+    ) -> Result<u64, Fault>
+        ensures cut { λ r. ⌜ Cut
+            (penalty-refusal (table-of-held (now (self .entry) .held)) (table-of-held (now (self .entry) .held) .length) penalty (length (now (numbers .entry))) (length (now (trace .entry))) (length (places (now (boundaries .entry)))))
+            (best-division (by-penalty penalty) (now (self .entry)))
+            (total-of (by-penalty penalty) (table-of-held (now (self .entry) .held) .loss) (table-of-held (now (self .entry) .held) .length))
+            r (now (boundaries .entry)) (now (boundaries .exit)) (now (numbers .entry)) (now (numbers .exit)) (now (trace .entry)) (now (trace .exit)) ⌝ }
+        ensures lender { λ _. ⌜ name (now (boundaries .exit) .items) ≡ name (now (boundaries .entry) .items) ⌝ }
+    {
+        cut_by_penalty(
+            &self.held,
+            self.held.length(),
+            &self.marks,
+            self.shortest,
+            penalty,
+            numbers,
+            trace,
+            boundaries,
+        )
+    }
+
+    // The cheapest allowed division with so many boundaries.
+    pub fn best_by_count(
+        &self,
+        count: u16,
+        numbers: &mut [u64],
+        trace: &mut [u16],
+        boundaries: &mut List<u16>,
+    ) -> Result<u64, Fault>
+        ensures cut { λ r. ⌜ Cut
+            (count-refusal (table-of-held (now (self .entry) .held)) (table-of-held (now (self .entry) .held) .length) count (length (now (numbers .entry))) (length (now (trace .entry))) (length (places (now (boundaries .entry)))))
+            (best-division (by-count count) (now (self .entry)))
+            (total-of (by-count count) (table-of-held (now (self .entry) .held) .loss) (table-of-held (now (self .entry) .held) .length))
+            r (now (boundaries .entry)) (now (boundaries .exit)) (now (numbers .entry)) (now (numbers .exit)) (now (trace .entry)) (now (trace .exit)) ⌝ }
+        ensures lender { λ _. ⌜ name (now (boundaries .exit) .items) ≡ name (now (boundaries .entry) .items) ⌝ }
+    {
+        cut_by_count(
+            &self.held,
+            self.held.length(),
+            &self.marks,
+            self.shortest,
+            count,
+            numbers,
+            trace,
+            boundaries,
+        )
     }
 
     // All that is told of a division of the readings.
