@@ -1,15 +1,21 @@
 // One command after the other, on the line that is worked on.
+use crate::buffers::Buffers;
 use crate::problem::Problem;
 use crate::problem::ProblemFromFailure;
 use crate::problem::ProblemFromFault;
 use crate::problem::ProblemFromIo;
 use crate::show::kind_name;
+use crate::show::show_best;
+use crate::show::show_comparison;
 use crate::show::show_help;
 use crate::show::show_report;
 use command::Command;
 use command::read;
 use division::mark::Mark;
 use leaves::kind::LossKind;
+use list::List;
+use std::alloc::AllocError;
+use std::alloc::Global;
 use std::error::AnyError;
 use std::mem::replace;
 use survey::state::Survey;
@@ -17,15 +23,17 @@ use survey::state::Survey;
 #[derive(Drop)]
 pub struct Console {
     survey: Survey,
+    buffers: Buffers,
     lines: u64,
 }
 
 impl Console {
-    pub fn new() -> Console {
-        Console {
+    pub fn new(heap: Global) -> Result<Console, AllocError> {
+        Ok(Console {
             survey: Survey::new(LossKind::Squares),
+            buffers: Buffers::new(heap)?,
             lines: 0,
-        }
+        })
     }
 
     // Carries out the command on a line of input, and prints what was done or why it was refused.
@@ -54,6 +62,9 @@ impl Console {
             Command::Unmark(first) => self.lift(rt, first),
             Command::Shortest(m) => self.set_shortest(rt, m),
             Command::Price { penalty, gaps } => self.price(rt, penalty, gaps.as_slice()),
+            Command::BestByPenalty(penalty) => self.best_by_penalty(rt, penalty),
+            Command::BestByCount(count) => self.best_by_count(rt, count),
+            Command::Path => Ok(()),
         }
     }
 
@@ -101,6 +112,77 @@ impl Console {
     fn price(&mut self, rt: &LibcRuntime, penalty: u64, gaps: &[u16]) -> Result<(), Problem> {
         let report = self.survey.price(rt.alloc(), penalty, gaps)?;
         let shortest = self.survey.shortest();
-        Ok(show_report(rt, penalty, shortest, gaps, &report)?)
+        show_report(rt, penalty, shortest, gaps, &report)?;
+        compare(
+            rt,
+            &self.survey,
+            penalty,
+            gaps,
+            report.total,
+            &mut self.buffers,
+        )
     }
+
+    fn best_by_penalty(&mut self, rt: &LibcRuntime, penalty: u64) -> Result<(), Problem> {
+        best_by_penalty(rt, &self.survey, penalty, &mut self.buffers)
+    }
+
+    fn best_by_count(&mut self, rt: &LibcRuntime, count: u16) -> Result<(), Problem> {
+        best_by_count(rt, &self.survey, count, &mut self.buffers)
+    }
+}
+
+fn compare(
+    rt: &LibcRuntime,
+    survey: &Survey,
+    penalty: u64,
+    gaps: &[u16],
+    total: u64,
+    buffers: &mut Buffers,
+) -> Result<(), Problem> {
+    let mut list = List::over(buffers.boundaries.as_mut_slice());
+    let best = survey.best_by_penalty(
+        penalty,
+        buffers.numbers.as_mut_slice(),
+        buffers.trace.as_mut_slice(),
+        &mut list,
+    );
+    show_comparison(rt, gaps, total, best, &mut list)?;
+    Ok(())
+}
+
+fn best_by_penalty(
+    rt: &LibcRuntime,
+    survey: &Survey,
+    penalty: u64,
+    buffers: &mut Buffers,
+) -> Result<(), Problem> {
+    let mut list = List::over(buffers.boundaries.as_mut_slice());
+    let total = survey.best_by_penalty(
+        penalty,
+        buffers.numbers.as_mut_slice(),
+        buffers.trace.as_mut_slice(),
+        &mut list,
+    )?;
+    print!(rt, "best {penalty}: ")?;
+    show_best(rt, total, &mut list)?;
+    Ok(())
+}
+
+fn best_by_count(
+    rt: &LibcRuntime,
+    survey: &Survey,
+    count: u16,
+    buffers: &mut Buffers,
+) -> Result<(), Problem> {
+    let mut list = List::over(buffers.boundaries.as_mut_slice());
+    let total = survey.best_by_count(
+        count,
+        buffers.numbers.as_mut_slice(),
+        buffers.trace.as_mut_slice(),
+        &mut list,
+    )?;
+    print!(rt, "best count {count}: ")?;
+    show_best(rt, total, &mut list)?;
+    Ok(())
 }

@@ -4,6 +4,7 @@ use input::LineFront;
 use std::error::AnyError;
 use std::io::Read;
 
+mod buffers;
 mod console;
 mod problem;
 mod show;
@@ -19,7 +20,7 @@ fn run(rt: &LibcRuntime) -> Result<(), AnyError> {
     let mut input = rt.stdin();
     let mut chunk = [0u8; 4096];
     let mut front = LineFront::new(rt.alloc(), LONGEST + 1);
-    let mut console = Console::new();
+    let mut console = Console::new(rt.alloc())?;
     let mut begun = false;
     for _ in 0..u64::MAX {
         let n = input.read(&mut chunk)?;

@@ -1,16 +1,21 @@
 // What is printed.
 use audit::report::Report;
 use division::mark::Mark;
+use fault::Fault;
 use leaves::kind::LossKind;
+use list::List;
 use std::io;
 
-const HELP: [&str; 9] = [
+const HELP: [&str; 12] = [
     "loss squares|distances|votes      begin a new line under that loss (squares at the start)",
     "readings 3 3 8 9 4 4              take readings behind those held, all of them or none",
     "mark FIRST LAST BOUNDARIES        exactly 0 or 1 of the gaps FIRST to LAST - 1 is a boundary",
     "unmark FIRST                      lift the mark that begins at reading FIRST",
     "shortest M                        every stretch holds at least M readings",
     "price PENALTY at GAP GAP ..       check the division with these boundaries",
+    "best PENALTY                      the cheapest allowed division at that penalty for each boundary",
+    "best count COUNT                  the cheapest allowed division with so many boundaries",
+    "path                              for every penalty, how many boundaries are best",
     "help                              print this list",
     "# ..                              a comment",
     "Gap i lies between reading i and reading i + 1.",
@@ -92,4 +97,62 @@ fn show_sums(rt: &LibcRuntime, shortest: u16, report: &Report) -> io::Result<()>
     println!(rt, "  shortest {shortest}: {length}")?;
     println!(rt, "  loss {loss}, total {total}")?;
     println!(rt, "  {verdict}")
+}
+
+// The boundaries of a division, and its total.
+pub fn show_best(rt: &LibcRuntime, total: u64, list: &mut List<u16>) -> io::Result<()> {
+    show_boundaries(rt, list)?;
+    println!(rt, ", total {total}")
+}
+
+fn show_boundaries(rt: &LibcRuntime, list: &mut List<u16>) -> io::Result<()> {
+    let count = list.len();
+    if count == 0 {
+        return print!(rt, "no boundary");
+    }
+    print!(rt, "boundaries")?;
+    for i in 0..count {
+        if let Some(gap) = list.get(i) {
+            print!(rt, " {gap}")?;
+        }
+    }
+    Ok(())
+}
+
+// Is the list's division the one with these gaps?
+fn is_same(gaps: &[u16], list: &mut List<u16>) -> bool {
+    if gaps.len() != list.len() {
+        return false;
+    }
+    for (i, gap) in gaps.iter().enumerate() {
+        if list.get(i) != Some(*gap) {
+            return false;
+        }
+    }
+    true
+}
+
+// Whether the division with these gaps and this total is the winner, and else which one is.
+pub fn show_comparison(
+    rt: &LibcRuntime,
+    gaps: &[u16],
+    total: u64,
+    best: Result<u64, Fault>,
+    list: &mut List<u16>,
+) -> io::Result<()> {
+    match best {
+        Err(_) => println!(rt, "  no division is allowed"),
+        Ok(_) if is_same(gaps, list) => println!(rt, "  the winner"),
+        Ok(least) => {
+            print!(rt, "  the winner has ")?;
+            show_boundaries(rt, list)?;
+            if least <= total {
+                let less = total - least;
+                println!(rt, ", total {least}: {less} less")
+            } else {
+                let more = least - total;
+                println!(rt, ", total {least}: {more} more")
+            }
+        }
+    }
 }
