@@ -3,7 +3,7 @@ use mathlib.Core.Path.{_≡_, refl, sym, ap, _∙_}
 use mathlib.Core.List.{List, [], _∷_, _++_, map, append-assoc}
 use mathlib.Core.Bool.{Bool, true}
 use Prim.Native.Nat.{ℕ, suc, _+_, _-_, _*_, _^_, _≤_, _<_}
-use native.Mathlib.Nat.{mul-le-mul, mul-le-mul-left, mul-add}
+use native.Mathlib.Nat.{mul-le-mul}
 use native.Mathlib.Omega.{arith}
 use lib.Dec.{ltb}
 use lib.ListN.{length, getD, take, drop}
@@ -14,6 +14,7 @@ use Rattle.std.specs.declared.result.Result.{Result}
 use Rattle.std.specs.declared.result.Result.the-variants.{Ok, Err}
 use Rattle.fault.specs.declared.Fault.{Fault}
 use Rattle.loss.specs.Table.{Table, Sound, answer}
+use Rattle.loss.proofs.Bounds.{stretch-bound}
 use Rattle.division.specs.Division.{Each-stretch, Division, division, sum-stretches, loss}
 use Rattle.division.proofs.Listed.{below, few-boundaries}
 use Rattle.division.proofs.Tested.{decides-each}
@@ -33,7 +34,7 @@ pub record Along (t : Table) (ds : List ℕ) (i start sum : ℕ) (items : List P
 pub begun : (t : Table) (ds : List ℕ) → Division (t .length) ds → Along t ds 0 0 0 []
 begun t ds h = record { rises = h; rest = refl; adds = omega arith; small = omega arith }
 
--- a stretch of a light loss is answered, and loses no more than 2^40 for each reading
+-- a stretch of a light loss is answered
 pub answered : (t : Table) (a b : ℕ) → t .ceiling ≤ 2 ^ 40 → a < b → b ≤ t .length → answer t a b ≡ Ok (t .loss a b)
 answered t a b light ab bn = grind (arith, tells)
 
@@ -42,14 +43,6 @@ never-refused t a b f light ab bn e = let q = answered t a b light ab bn in let 
 
 pub priced-at : (t : Table) (a b c : ℕ) → t .ceiling ≤ 2 ^ 40 → a < b → b ≤ t .length → Ok c ≡ answer t a b → c ≡ t .loss a b
 priced-at t a b c light ab bn e = let q = answered t a b light ab bn in cc
-
-pub stretch-bound : (t : Table) → Sound t → (a b : ℕ) → t .ceiling ≤ 2 ^ 40 → a < b → b ≤ t .length → 2 ^ 40 * a + t .loss a b ≤ 2 ^ 40 * b
-stretch-bound t sound a b light ab bn =
-    let u = sound .under a b light ab bn in
-    let v : t .ceiling * (b - a) ≤ 2 ^ 40 * (b - a) = mul-le-mul light (omega arith) in
-    let e : b ≡ a + (b - a) = omega arith in
-    let w : 2 ^ 40 * b ≡ 2 ^ 40 * a + 2 ^ 40 * (b - a) = ap (λ (n : ℕ). 2 ^ 40 * n) e ∙ mul-add (2 ^ 40) a (b - a) in
-    omega (arith, u, v, w)
 
 -- the next stretch lies within the line
 pub next-rises : (t : Table) (ds : List ℕ) (i start sum : ℕ) (items : List PricedStretch) → i < length ds → Along t ds i start sum items → (start < getD ds i 0) × Each-stretch (λ a b. a < b) (t .length) (getD ds i 0) (drop (i + 1) ds)

@@ -10,6 +10,9 @@ use lib.Dec.{ltb}
 use lib.ListN.{length}
 use Rattle.std.specs.shelf.Lists.{All}
 use Rattle.std.proofs.shelf.Ways.{tells}
+use Rattle.std.proofs.shelf.Tests.{ltb-true, ltb-false, lt-ltb}
+use Rattle.std.specs.Options.{mapped}
+use Rattle.std.specs.declared.option.Option.{Option}
 use Rattle.std.specs.declared.option.Option.the-variants.{Some, None}
 use Rattle.division.specs.declared.mark.Mark.{Mark}
 use Rattle.division.specs.Division.{Each-stretch, Division, loss}
@@ -18,9 +21,10 @@ use Rattle.division.specs.Winner.{Criterion, by-penalty, by-count, Candidate, t
 use Rattle.division.proofs.Best.{winner-is-best, candidate-divides}
 use Rattle.division.proofs.ByStretch.{allowed-by-stretch, each-map}
 use Rattle.tally.specs.Entries.{pair-below}
+use Rattle.tally.specs.Order.{Order, Strict}
 use Rattle.search.specs.Starts.{Starts, tally-of, any-number, exactly, boundaries-of, No-later, Winning-starts}
-use Rattle.search.specs.Rows.{Found, part}
-use Rattle.search.proofs.Optimal.{clash}
+use Rattle.search.specs.Rows.{Found, Least, part}
+use Rattle.search.proofs.Optimal.{clash, best-wins}
 use Rattle.search.proofs.Tracing.{starts-fall}
 use Rattle.cuts.proofs.Divisions.{starts-of, division-of-starts, starts-of-boundaries, starts-of-division, later-starts, later-length, any-many, exactly-many, length-starts}
 use Rattle.cuts.proofs.Tallied.{total-tally, total-is, loss-tally, loss-is}
@@ -33,6 +37,17 @@ pair-fewer a b x y e h = grind (arith, tells)
 
 ltb-less : (a b : ℕ) → a < b → ltb a b ≡ true
 ltb-less a b h = grind (arith, tells)
+
+ltb-order : Order ltb
+ltb-order =
+    record {
+      never = λ x. grind (arith, tells);
+      trans = λ x y z h k. grind (arith, tells);
+      same = λ x y h k. omega (arith, ltb-false x y h, ltb-false y x k);
+    }
+
+loss-strict : (f : ℕ → ℕ → ℕ) → Strict (loss-tally f)
+loss-strict f a b x y h = lt-ltb (x + f a b) (y + f a b) (omega (arith, ltb-true x y h))
 
 -- a division has fewer boundaries than readings
 few : (n a : ℕ) (ds : List ℕ) → Each-stretch (λ x y. x < y) n a ds → length ds + a < n
@@ -144,3 +159,11 @@ module _ (f : ℕ → ℕ → ℕ) (marks : List Mark) (m n : ℕ) (pos : 0 < n)
         let said : Said d =
         (winner-is-best (by-count k) f marks m n (Some d) (won .0), h .2 ∙ won .1, few-boundaries n d (candidate-divides (by-count k) marks m n d (won .0 .candidate))) in
         subst Said (sym (h .5)) said
+
+    -- the least loss of so many stretches is the winner's
+    pub count-least : (o : Option ℕ) → Least (loss-tally f) (exactly Edge) (k + 1) n o → o ≡ mapped (total (by-count k) f n) (winner (by-count k) f marks m n)
+    count-least None h = sym (ap (mapped (total (by-count k) f n)) (count-none h))
+    count-least (Some v) h =
+        let d : List ℕ = boundaries-of (h .0) [] in
+        let won = count-wins (h .0) (best-wins (loss-tally f) (exactly Edge) ltb-order (loss-strict f) (k + 1) n (h .0) (h .1)) in
+        ap Some (h .2 ∙ won .1) ∙ sym (ap (mapped (total (by-count k) f n)) (winner-is-best (by-count k) f marks m n (Some d) (won .0)))

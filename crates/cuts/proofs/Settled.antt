@@ -8,6 +8,7 @@ use Rattle.std.specs.declared.option.Option.{Option}
 use Rattle.std.specs.declared.option.Option.the-variants.{Some, None}
 use Rattle.std.specs.declared.result.Result.{Result}
 use Rattle.std.specs.declared.result.Result.the-variants.{Ok, Err}
+use Rattle.std.specs.Results.{Cases}
 use Rattle.list.specs.declared.List.{List}
 use Rattle.list.specs.Entries.{entries, places}
 use Rattle.fault.specs.declared.Fault.{Fault}
@@ -35,3 +36,8 @@ module _ (refusal : Option Fault) (winner : Option (Seq ℕ)) (cost : Seq ℕ �
       let P : Option Fault → Option (Seq ℕ) → Type 0 = λ x w. Cut x w cost (Ok t) old new numbers numbers′ trace trace′ in
       subst (λ (x : Option Fault). P x winner) (sym e) (subst (λ (w : Option (Seq ℕ)). P None w) (sym q)
       (record { answer = ap Ok v; bounded = small; listed = l; past = p; untouched = λ g q. none-some g q }))
+
+-- a further fact of an answer that is never a refusal
+pub answered : {X P Q : Type 0} (r : Result X Fault) → (P → Q) → Cases r (λ _. P) (λ _. ⊥) → Cases r (λ _. Q) (λ _. ⊥)
+answered (Ok x) f h = f h
+answered (Err e) f h = h

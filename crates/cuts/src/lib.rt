@@ -1,3 +1,4 @@
-// The best allowed division of a line, by penalty and by count.
+// The best allowed division of a line, by penalty and by count, and the least loss for each count.
 pub mod cuts;
-mod refusal;
+pub mod least;
+pub mod refusal;

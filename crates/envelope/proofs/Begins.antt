@@ -83,18 +83,18 @@ pub steps-begin : Steps-begin
 steps-begin losses n = below-open losses n (largest-penalty + 1)
 
 module _ (losses losses′ : ℕ → Option ℕ) where
-  at-only-counts-below : (p n : ℕ) → ((k : ℕ) → k < n → losses k ≡ losses′ k) → path-at losses p n ≡ path-at losses′ p n
-  at-only-counts-below p zero h = refl
-  at-only-counts-below p (suc n) h = ap₂ (λ o l. better-count p o n l) (at-only-counts-below p n (λ k b. h k (omega arith))) (h n (omega arith))
+  pub path-at-same : (p n : ℕ) → ((k : ℕ) → k < n → losses k ≡ losses′ k) → path-at losses p n ≡ path-at losses′ p n
+  path-at-same p zero h = refl
+  path-at-same p (suc n) h = ap₂ (λ o l. better-count p o n l) (path-at-same p n (λ k b. h k (omega arith))) (h n (omega arith))
 
-  begins-at-only-counts-below : (n : ℕ) → ((k : ℕ) → k < n → losses k ≡ losses′ k) → (q : ℕ) → begins-at losses n q ≡ begins-at losses′ n q
-  begins-at-only-counts-below n h zero = ap (begun-at None) (at-only-counts-below 0 n h)
-  begins-at-only-counts-below n h (suc q) = ap₂ begun-at (at-only-counts-below q n h) (at-only-counts-below (suc q) n h)
+  begins-at-same : (n : ℕ) → ((k : ℕ) → k < n → losses k ≡ losses′ k) → (q : ℕ) → begins-at losses n q ≡ begins-at losses′ n q
+  begins-at-same n h zero = ap (begun-at None) (path-at-same 0 n h)
+  begins-at-same n h (suc q) = ap₂ begun-at (path-at-same q n h) (path-at-same (suc q) n h)
 
-  below-only-counts-below : (n : ℕ) → ((k : ℕ) → k < n → losses k ≡ losses′ k) → (q : ℕ) → steps-below losses n q ≡ steps-below losses′ n q
+  steps-below-same : (n : ℕ) → ((k : ℕ) → k < n → losses k ≡ losses′ k) → (q : ℕ) → steps-below losses n q ≡ steps-below losses′ n q
   unfolding steps-below
-  below-only-counts-below n h zero = refl
-  below-only-counts-below n h (suc q) = ap₂ _++_ (below-only-counts-below n h q) (begins-at-only-counts-below n h q)
+  steps-below-same n h zero = refl
+  steps-below-same n h (suc q) = ap₂ _++_ (steps-below-same n h q) (begins-at-same n h q)
 
 pub only-counts-below : Only-counts-below
-only-counts-below losses losses′ n h = below-only-counts-below losses losses′ n h (largest-penalty + 1)
+only-counts-below losses losses′ n h = steps-below-same losses losses′ n h (largest-penalty + 1)

@@ -13,7 +13,7 @@ use Rattle.std.specs.declared.option.Option.the-variants.{Some, None}
 use Rattle.std.specs.Options.{Cases as BySome}
 use Rattle.tally.specs.Order.{Tallying, Order, Weak}
 use Rattle.search.specs.Starts.{Stages, Starts, Best, any-number, exactly}
-use Rattle.search.specs.Rows.{Picked, Entry, Extended, Traced, Row, Next-row, value-of, start-of}
+use Rattle.search.specs.Rows.{Picked, Entry, Least, Extended, Traced, Row, Next-row, value-of, start-of}
 use Rattle.search.proofs.Optimal.{best-starts, keeps}
 
 module _ {V S : Type 0} (m : Tallying V) (n : Stages S) (order : Order (m .below)) (start-for start-for' : S → ℕ → ℕ) (Old : S → ℕ → Type 0)
@@ -158,3 +158,49 @@ pub row-noted : {V : Type 0} (m : Tallying V) (can : ℕ → ℕ → Type 0) (fi
     → ((t a : ℕ) → t < limit → noted t a → noted' t a) → Next-row m can fits before after noted limit → Next-row m can fits before after noted' limit
 row-noted m can fits before after noted noted' limit told filled =
     record { found = λ t lt. (let f = filled .found t lt in (f .0, f .1, f .2, told t (start-of (f .0)) lt (f .3))); small = filled .small }
+
+-- An entry with nothing kept of its starts.
+pub forgotten : {V S : Type 0} (m : Tallying V) (n : Stages S) (kept : List ℕ → Type 0) (s : S) (t : ℕ) (o : Option V) → Entry m n kept s t o → Least m n s t o
+forgotten m n kept s t None h = h
+forgotten m n kept s t (Some v) h = (h .0, h .1, h .2, tt)
+
+extended-least : {V S : Type 0} (m : Tallying V) (n : Stages S) (s : S) (t : ℕ) (r : Option (V × ℕ)) → Extended m n (λ _ _. Unit {0}) s t r → Least m n s t (value-of r)
+extended-least m n s t None h = h
+extended-least m n s t (Some (v, a)) h = (a ∷ h .0, h .1, h .2, tt)
+
+-- a row after the row before it, with no trace
+pub least-next : {V : Type 0} (m : Tallying V) (can : ℕ → ℕ → Type 0) → Order (m .below) → Weak m → (fits : ℕ → V → Type 0) (s limit : ℕ) (before after : ℕ → Option V) (noted : ℕ → ℕ → Type 0) → 0 < s
+    → ((t : ℕ) → t < limit → Least m (exactly can) (s - 1) t (before t))
+    → Next-row m can fits before after noted limit
+    → (t : ℕ) → t < limit → Least m (exactly can) s t (after t)
+least-next m can order weakly fits s limit before after noted pos rows filled t lt =
+    let found = filled .found t lt in
+    subst (λ o. Least m (exactly can) s t o) (sym (found .2))
+    (extended-least m (exactly can) s t (found .0) (keeps m (exactly can) order weakly s t before (λ _ _. Unit {0}) (λ z. omega arith) (λ a h. rows a (omega arith)) (found .0)
+    (picked-ok m (λ a. can a t) (λ a. (0 < s) × (can a t)) before t t (found .0) (λ a h. (pos, h)) (λ a h. h .1) (found .1))))
+
+pub fits-some : {V : Type 0} (near far : V → Type 0) → ((x : V) → near x → far x) → (o : Option V) → BySome o (Unit {0}) near → BySome o (Unit {0}) (λ x. far x)
+fits-some near far wider None h = h
+fits-some near far wider (Some v) h = wider v h
+
+-- the tallies of the first row fit
+pub first-fits : {V : Type 0} (fits : ℕ → V → Type 0) (zero : V) (row : ℕ → Option V) (limit : ℕ) → fits 0 zero → row 0 ≡ Some zero → ((t : ℕ) → 0 < t → t < limit → row t ≡ None)
+    → (a : ℕ) → a < limit → BySome (row a) (Unit {0}) (λ v. fits a v)
+first-fits {V} fits zero row limit least first rest a lt =
+    let Fit : ℕ → Option V → Type 0 = λ a o. BySome o (Unit {0}) (λ v. fits a v) in
+    elim (decLt 0 a) [
+      | yes pos ↦ subst (Fit a) (sym (rest a pos lt)) tt
+      | no z ↦ (let e : a ≡ 0 = omega arith in subst (λ (x : ℕ). Fit x (row x)) (sym e) (subst (Fit 0) (sym first) least))
+    ]
+
+-- two rows that take the same two places by turns
+abbrev pub By-turns : ℕ → ℕ → ℕ → Type 0
+By-turns n src dst = ((src ≡ 0) × (dst ≡ n + 1)) ⊎ ((src ≡ n + 1) × (dst ≡ 0))
+
+pub apart : (n src dst : ℕ) → By-turns n src dst → (src ≤ n + 1) × (dst ≤ n + 1) × ((src + n < dst) ⊎ (dst + n < src))
+apart n src dst (inl h) = (omega arith, omega arith, inl (omega arith))
+apart n src dst (inr h) = (omega arith, omega arith, inr (omega arith))
+
+pub turned : (n src dst : ℕ) → By-turns n src dst → By-turns n dst src
+turned n src dst (inl h) = inr (h .1, h .0)
+turned n src dst (inr h) = inl (h .1, h .0)

@@ -38,6 +38,10 @@ abbrev pub Entry : {V S : Type 0} → Tallying V → Stages S → (List ℕ → 
 Entry m n kept s t None = (ds : List ℕ) → Starts n s t ds → ⊥
 Entry m n kept s t (Some v) = (ds : List ℕ) × Best m n s t ds × (v ≡ tally-of m t ds) × kept ds
 
+-- the same with nothing kept
+abbrev pub Least : {V S : Type 0} → Tallying V → Stages S → S → ℕ → Option V → Type 0
+Least m n s t o = Entry m n (λ _. Unit {0}) s t o
+
 -- What was picked for t is the last of the best starts to t and what they tally, or there are none.
 abbrev pub Extended : {V S : Type 0} → Tallying V → Stages S → (ℕ → List ℕ → Type 0) → S → ℕ → Option (V × ℕ) → Type 0
 Extended m n kept s t None = (ds : List ℕ) → Starts n s t ds → ⊥

@@ -130,7 +130,7 @@ pub fn fill_row<L: Loss, T: Tally>(
 }
 
 // The row of no stretch at all: an entry at 0, and no other.
-fn first_row<T: Tally>(tally: &T, n: u16, rows: &mut [u64])
+pub(crate) fn first_row<T: Tally>(tally: &T, n: u16, rows: &mut [u64])
     requires { ⌜ stride * (n + 1) ≤ length (now rows) ⌝ }
     ensures first { λ _. ⌜ held (now (rows .exit)) 0 ≡ Some zero ⌝ }
     ensures absent { λ _. ⌜ ((t : ℕ) → 0 < t → t < n + 1 → held (now (rows .exit)) t ≡ None) ⌝ }
@@ -142,7 +142,7 @@ fn first_row<T: Tally>(tally: &T, n: u16, rows: &mut [u64])
 }
 
 // The row at `dst`, of one stretch more, from the row at `src`; the trace, if it reaches so far, keeps the last starts from `place` on.
-fn next_row<L: Loss, T: Tally>(
+pub(crate) fn next_row<L: Loss, T: Tally>(
     loss: &L,
     tally: &T,
     constraints: &Constraints,

@@ -1,5 +1,7 @@
 // Worked examples that are run, one file for each layer.
 #[cfg(test)]
+mod cutting;
+#[cfg(test)]
 mod layered;
 #[cfg(test)]
 mod laying;

@@ -5,7 +5,6 @@ use mathlib.Core.Logic.{_⊎_, inl, inr}
 use Prim.Native.Nat.{ℕ, _+_, _-_, _*_, _<_, _≤_, _^_}
 use native.Mathlib.Nat.{mul-le-mul-left, mul-le-mul-right, mul-le-mul, add-mul, zero-add, one-mul}
 use native.Mathlib.Omega.{arith}
-use native.Mathlib.Decide.{decLt}
 use lib.ListN.{length, getD, set}
 use Rattle.std.specs.declared.option.Option.{Option}
 use Rattle.std.specs.declared.option.Option.the-variants.{Some, None}
@@ -15,7 +14,7 @@ use Rattle.search.specs.Starts.{exactly}
 use Rattle.search.specs.Rows.{Row, Next-row, kept-start}
 use Rattle.constraints.specs.Ranges.{permitted}
 use Rattle.search.proofs.Optimal.{weak}
-use Rattle.search.proofs.Filling.{exactly-first, exactly-next, row-noted}
+use Rattle.search.proofs.Filling.{exactly-first, exactly-next, row-noted, first-fits, apart, turned}
 use Rattle.search.proofs.Tracing.{kept-start-at, kept-start-same}
 use Rattle.search.proofs.rows.fill_rows.Needs as need
 
@@ -37,8 +36,7 @@ next-row-requires g c κs =
     let big : s * (n + 1) ≤ 512 * 513 = (let few : s ≤ 512 = omega (arith, c .pre .count) in let short : n + 1 ≤ 513 = omega (arith, c .pre .size) in mul-le-mul few short) in
     let within : (x : ℕ) → x ≤ n + 1 → g .T·Tally .stride * (x + (n + 1)) ≤ length (c .loop-s .rows) =
     λ x le. let k : x + (n + 1) ≤ (n + 1) + (n + 1) = omega arith in omega (arith, mul-le-mul-left (g .T·Tally .stride) k, c .pre .room, c .loop-s .kept .rows, c .first-row .kept .rows) in
-    let sides : (src ≤ n + 1) × (dst ≤ n + 1) × ((src + n < dst) ⊎ (dst + n < src)) =
-    elim (c .loop-s .inv .0) [ inl h ↦ (omega arith, omega arith, inl (omega arith)) | inr h ↦ (omega arith, omega arith, inr (omega arith)) ] in
+    let sides = apart n src dst (c .loop-s .inv .0) in
     record {
       size = c .pre .size;
       near = (omega (arith, sides .0, c .pre .size), omega (arith, sides .1, c .pre .size), omega arith);
@@ -57,14 +55,10 @@ loop-s-holds g c =
     let s : Tallying V = tallying (m .zero) (m .added) (m .below) (c .args .tally .now) (g .L·Loss .table (c .args .loss .now) .loss) in
     let row : ℕ → Option V = λ a. m .held (c .first-row .last .rows) (0 + a) in
     let first : row 0 ≡ Some (m .zero) = c .first-row .ensures .first in
-    let rest : (t : ℕ) → 0 < t → t < n + 1 → row t ≡ None = λ t pos lt. ap (m .held (c .first-row .last .rows)) (zero-add t) ∙ c .first-row .ensures .absent t pos lt in
-    let Fit : ℕ → Option V → Type 0 = λ a o. BySome o (Unit {0}) (λ v. m .fits a v) in (
+    let rest : (t : ℕ) → 0 < t → t < n + 1 → row t ≡ None = λ t pos lt. ap (m .held (c .first-row .last .rows)) (zero-add t) ∙ c .first-row .ensures .absent t pos lt in (
       inl (refl, refl),
       exactly-first s (permitted (c .args .constraints .now)) (kept-start (c .args .trace .now) (n + 1)) row (n + 1) first rest,
-      λ a lt. elim (decLt 0 a) [
-        | yes pos ↦ subst (Fit a) (sym (rest a pos lt)) tt
-        | no z ↦ (let e : a ≡ 0 = omega arith in subst (λ (x : ℕ). Fit x (row x)) (sym e) (subst (Fit 0) (sym first) (g .T·Tally·met .least)))
-      ],
+      first-fits (m .fits) (m .zero) row (n + 1) (g .T·Tally·met .least) first rest,
     )
 
 pub loop-s-again : need.loop-s-again
@@ -86,9 +80,9 @@ loop-s-again g c =
     let top : (j + 1) * (n + 1) ≤ c .args .stretches * (n + 1) = (let le : j + 1 ≤ c .args .stretches = omega arith in mul-le-mul-right (n + 1) le) in
     let earlier : (k x : ℕ) → k < j + 1 → x < n + 1 → start-for' k x ≡ start-for k x = λ k x lt le.
     kept-start-same (c .loop-s .trace) (c .next-row .last .trace) (n + 1) k x (λ pos.
-    (let line : k - 1 + 1 ≤ j = omega arith in
-    done .1 ((k - 1) * (n + 1) + x) (omega (arith, mul-le-mul-right (n + 1) line, next-place (k - 1) (n + 1))))) in (
-      elim (c .loop-s .inv .0) [ inl h ↦ inr (h .1, h .0) | inr h ↦ inl (h .1, h .0) ],
+    (let above : k - 1 + 1 ≤ j = omega arith in
+    done .1 ((k - 1) * (n + 1) + x) (omega (arith, mul-le-mul-right (n + 1) above, next-place (k - 1) (n + 1))))) in (
+      turned n (c .loop-s .src) (c .loop-s .dst) (c .loop-s .inv .0),
       exactly-next s can order (weak s order (λ a b x y. g .T·Tally·met .strict (c .args .tally .now) x y a (g .L·Loss .table (c .args .loss .now) .loss a b)))
           (m .fits) (j + 1) (n + 1) start-for start-for' before after (omega arith) rows
           (row-noted s can (m .fits) before after (λ t a. j * (n + 1) + t < length (c .loop-s .trace) → getD (c .next-row .last .trace) (j * (n + 1) + t) 0 ≡ a) (λ t a. start-for' (j + 1) t ≡ a) (n + 1)
@@ -100,9 +94,8 @@ pub returns : need.returns
 returns g c =
     let m = g .T·Tally in
     let n : ℕ = c .args .n in
-    let e : c .loop-s .s ≡ c .args .stretches = omega arith in
-    let near : c .loop-s .src ≤ n + 1 = elim (c .loop-s .inv .0) [ inl h ↦ omega arith | inr h ↦ omega arith ] in (
-      near,
+    let e : c .loop-s .s ≡ c .args .stretches = omega arith in (
+      apart n (c .loop-s .src) (c .loop-s .dst) (c .loop-s .inv .0) .0,
       subst (λ (x : ℕ). Row (tallying (m .zero) (m .added) (m .below) (c .args .tally .now) (g .L·Loss .table (c .args .loss .now) .loss)) (exactly (permitted (c .args .constraints .now)))
           (kept-start (c .loop-s .trace) (n + 1)) x (λ a. m .held (c .loop-s .rows) (c .loop-s .src + a)) (n + 1)) e (c .loop-s .inv .1),
       c .loop-s .inv .2,
