@@ -8,6 +8,7 @@ use crate::show::kind_name;
 use crate::show::show_best;
 use crate::show::show_comparison;
 use crate::show::show_help;
+use crate::show::show_path;
 use crate::show::show_report;
 use command::Command;
 use command::read;
@@ -64,7 +65,7 @@ impl Console {
             Command::Price { penalty, gaps } => self.price(rt, penalty, gaps.as_slice()),
             Command::BestByPenalty(penalty) => self.best_by_penalty(rt, penalty),
             Command::BestByCount(count) => self.best_by_count(rt, count),
-            Command::Path => Ok(()),
+            Command::Path => path(rt, &self.survey, &mut self.buffers),
         }
     }
 
@@ -184,5 +185,12 @@ fn best_by_count(
     )?;
     print!(rt, "best count {count}: ")?;
     show_best(rt, total, &mut list)?;
+    Ok(())
+}
+
+fn path(rt: &LibcRuntime, survey: &Survey, buffers: &mut Buffers) -> Result<(), Problem> {
+    let mut list = List::over(buffers.steps.as_mut_slice());
+    survey.path(buffers.numbers.as_mut_slice(), &mut list)?;
+    show_path(rt, &mut list)?;
     Ok(())
 }

@@ -1,6 +1,7 @@
 // What is printed.
 use audit::report::Report;
 use division::mark::Mark;
+use envelope::Step;
 use fault::Fault;
 use leaves::kind::LossKind;
 use list::List;
@@ -155,4 +156,24 @@ pub fn show_comparison(
             }
         }
     }
+}
+
+// The steps of a path: from which penalty on how many boundaries are best.
+pub fn show_path(rt: &LibcRuntime, list: &mut List<Step>) -> io::Result<()> {
+    let steps = list.len();
+    println!(rt, "path: {steps} in all")?;
+    for i in 0..steps {
+        if let Some(step) = list.get(i) {
+            let Step {
+                penalty,
+                count,
+                loss,
+            } = step;
+            println!(
+                rt,
+                "  from penalty {penalty}: {count} boundaries, loss {loss}"
+            )?;
+        }
+    }
+    Ok(())
 }

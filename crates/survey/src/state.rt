@@ -11,6 +11,7 @@ ghost use Rattle.marks.specs.Table.{marks-of};
 ghost use denote.Ref.{name};
 ghost use Rattle.list.specs.Entries.{places};
 ghost use Rattle.division.specs.Winner.{by-penalty, by-count, total as total-of};
+ghost use Rattle.path.specs.Outcome.{path-refusal, Path-written};
 ghost use Rattle.cuts.specs.Outcome.{penalty-refusal, count-refusal, Cut};
 ghost use Rattle.survey.specs.Best.{best-division};
 ghost use Rattle.audit.specs.Priced.{price-refusal, Told};
@@ -23,6 +24,7 @@ use audit::report::Report;
 use cuts::cuts::cut_by_count;
 use cuts::cuts::cut_by_penalty;
 use division::mark::Mark;
+use envelope::Step;
 use fault::Failure;
 use fault::Fault;
 use leaves::kind::LossKind;
@@ -31,6 +33,7 @@ use loss::model::Loss;
 use marks::lent::lay_in;
 use marks::lent::lift_in;
 use marks::table::MarkTable;
+use path::path::path;
 use std::alloc::Global;
 
 #[derive(Drop)]
@@ -173,6 +176,24 @@ impl Survey {
             numbers,
             trace,
             boundaries,
+        )
+    }
+
+    // For every penalty, how many boundaries are best, and their loss: steps into the list.
+    pub fn path(&self, numbers: &mut [u64], steps: &mut List<Step>) -> Result<(), Fault>
+        ensures path { λ r. ⌜ Path-written
+            (path-refusal (table-of-held (now (self .entry) .held)) (table-of-held (now (self .entry) .held) .length) (length (now (numbers .entry))) (length (places (now (steps .entry)))))
+            (table-of-held (now (self .entry) .held) .loss) (marks-of (now (self .entry) .marks)) (now (self .entry) .shortest) (table-of-held (now (self .entry) .held) .length)
+            r (now (steps .entry)) (now (steps .exit)) (now (numbers .entry)) (now (numbers .exit)) ⌝ }
+        ensures lender { λ _. ⌜ name (now (steps .exit) .items) ≡ name (now (steps .entry) .items) ⌝ }
+    {
+        path(
+            &self.held,
+            self.held.length(),
+            &self.marks,
+            self.shortest,
+            numbers,
+            steps,
         )
     }
 

@@ -2,6 +2,7 @@
 // lent readings, and gives a digest of what it found.
 use cuts::cuts::cut_by_count;
 use cuts::cuts::cut_by_penalty;
+use envelope::Step;
 use layers::pair::Pair;
 use layers::pair::PairLoss;
 use layers::weighted::Weighted;
@@ -16,6 +17,7 @@ use leaves::votes::methods::VotesLoss;
 use list::List;
 use loss::model::Loss;
 use marks::table::MarkTable;
+use path::path::path;
 
 type Port = Squares;
 
@@ -53,6 +55,18 @@ fn digest(start: u64, boundaries: &mut List<u16>) -> u64 {
     for i in 0..boundaries.len() {
         if let Some(gap) = boundaries.get(i) {
             sum = sum.wrapping_mul(31).wrapping_add(u64::from(gap));
+        }
+    }
+    sum
+}
+
+fn digest_of_path(steps: &mut List<Step>) -> u64 {
+    let mut sum: u64 = 0;
+    for i in 0..steps.len() {
+        if let Some(step) = steps.get(i) {
+            sum = sum.wrapping_mul(31)
+                .wrapping_add(step.penalty ^ step.loss)
+                .wrapping_add(u64::from(step.count));
         }
     }
     sum
@@ -106,6 +120,24 @@ fn by_count<L: Loss>(loss: &L, count: u16, times: u32) -> u64 {
     sum
 }
 
+fn path_of<L: Loss>(loss: &L, times: u32) -> u64 {
+    let marks = MarkTable::new();
+    let mut numbers = [0u64; 1539];
+    let mut places = [Step {
+        penalty: 0,
+        count: 0,
+        loss: 0,
+    }; 512];
+    let mut list = List::over(&mut places);
+    let mut sum: u64 = 0;
+    for _ in 0..times {
+        if path(loss, loss.length(), &marks, 1, &mut numbers, &mut list).is_ok() {
+            sum = sum.wrapping_add(digest_of_path(&mut list));
+        }
+    }
+    sum
+}
+
 #[unsafe(no_mangle)]
 pub extern "C" fn squares_by_penalty(readings: &[u8], penalty: u64, times: u32) -> u64 {
     by_penalty(&squares_of(readings), penalty, times)
@@ -117,6 +149,11 @@ pub extern "C" fn squares_by_count(readings: &[u8], count: u16, times: u32) -> u
 }
 
 #[unsafe(no_mangle)]
+pub extern "C" fn squares_path(readings: &[u8], times: u32) -> u64 {
+    path_of(&squares_of(readings), times)
+}
+
+#[unsafe(no_mangle)]
 pub extern "C" fn pair_by_penalty(readings: &[u8], penalty: u64, times: u32) -> u64 {
     by_penalty(&pair_of(readings), penalty, times)
 }
@@ -124,4 +161,9 @@ pub extern "C" fn pair_by_penalty(readings: &[u8], penalty: u64, times: u32) -> 
 #[unsafe(no_mangle)]
 pub extern "C" fn pair_by_count(readings: &[u8], count: u16, times: u32) -> u64 {
     by_count(&pair_of(readings), count, times)
+}
+
+#[unsafe(no_mangle)]
+pub extern "C" fn pair_path(readings: &[u8], times: u32) -> u64 {
+    path_of(&pair_of(readings), times)
 }
