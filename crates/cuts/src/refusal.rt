@@ -21,7 +21,7 @@ pub(crate) struct Room {
 }
 
 // Has the line between 1 and 512 readings, and does the loss stand for all of them?
-fn check_line<L: Loss>(loss: &L, n: u16) -> Result<(), Fault>
+pub fn check_line<L: Loss>(loss: &L, n: u16) -> Result<(), Fault>
     ensures { λ r. ⌜ Refused-for (line-refusal (table (now (loss .entry))) n) r ⌝ }
 {
     if loss.ceiling() > HEAVIEST {
