@@ -31,13 +31,13 @@ falls-any : (P : ℕ → ℕ → Type 0) (t : ℕ) (ds : List ℕ) → Starts (a
 falls-any P t [] w = w
 falls-any P t (a ∷ more) w = (w .0, falls-any P a more (w .2))
 
-turned : (a : ℕ) (more rest : List ℕ) → Falling a more → starts-of (boundaries-of (a ∷ more) rest) ≡ starts-onto (a ∷ more) rest
-turned a [] rest f = ap (λ (x : ℕ). starts-onto (x ∷ []) rest) (sym f)
-turned a (b ∷ more) rest f = turned b more (a ∷ rest) (f .1)
+onto-boundaries : (a : ℕ) (more rest : List ℕ) → Falling a more → starts-of (boundaries-of (a ∷ more) rest) ≡ starts-onto (a ∷ more) rest
+onto-boundaries a [] rest f = ap (λ (x : ℕ). starts-onto (x ∷ []) rest) (sym f)
+onto-boundaries a (b ∷ more) rest f = onto-boundaries b more (a ∷ rest) (f .1)
 
 pub starts-of-boundaries : (t : ℕ) (ds : List ℕ) → 0 < t → Falling t ds → starts-of (boundaries-of ds []) ≡ ds
 starts-of-boundaries t [] pos f = absurd (omega (arith, f))
-starts-of-boundaries t (a ∷ more) pos f = turned a more [] (f .1)
+starts-of-boundaries t (a ∷ more) pos f = onto-boundaries a more [] (f .1)
 
 -- starts from a division
 module _ (P : ℕ → ℕ → Type 0) (rises : (a b : ℕ) → P a b → a < b) (t : ℕ) where

@@ -1,4 +1,4 @@
--- An entry stays right while the trace below it stays, and the search's pick is the next one.
+-- Filling rows: an entry stays right while the trace behind it stays, and what the search picks makes the next one.
 use mathlib.Core.Path.{_≡_, refl, sym, _∙_, ap, subst}
 use mathlib.Core.List.{List, [], _∷_}
 use mathlib.Core.Bool.{Bool, true, false}
@@ -35,7 +35,7 @@ module _ {V S : Type 0} (m : Tallying V) (n : Stages S) (order : Order (m .below
   next-entry s t (Some (v, a)) old e h =
       (a ∷ h .0, h .1, h .2, (e, traced-stays (n .prev s) a (h .0) (old a (h .1 .0)) (best-starts m n order s t (a ∷ h .0) (h .1) .2) (h .3)))
 
-  -- one turn: the entries of the stage before are right, so what the search picked makes the entry at t
+  -- the entries of the stage before are right, so what the search picked makes the entry at t
   pub next-entry-right : Weak m → (s : S) (t : ℕ) (from : ℕ → Option V) (r : Option (V × ℕ)) (o : Option V) → (n .begins s t → ⊥)
       → ((a : ℕ) → a < t → Old (n .prev s) a)
       → ((a : ℕ) → a < t → Entry m n (Traced (n .prev) start-for (n .prev s) a) (n .prev s) a (from a))
@@ -48,7 +48,7 @@ module _ {V S : Type 0} (m : Tallying V) (n : Stages S) (order : Order (m .below
 last : (b i : ℕ) → b < i + 1 → (b < i) ⊎ (b ≡ i)
 last b i h = elim (decLt b i) [ yes lt ↦ inl lt | no ge ↦ inr (omega arith) ]
 
--- The pass over all ways: entries 0..t from entries 0..t-1.
+-- A row over any number of stretches: entry t from the entries before it.
 module _ {V : Type 0} (m : Tallying V) (can : ℕ → ℕ → Type 0) where
   abbrev starts-for : List ℕ → Unit {0} → ℕ → ℕ
   starts-for trace _ x = getD trace x 0
@@ -201,6 +201,6 @@ pub apart : (n src dst : ℕ) → By-turns n src dst → (src ≤ n + 1) × (dst
 apart n src dst (inl h) = (omega arith, omega arith, inl (omega arith))
 apart n src dst (inr h) = (omega arith, omega arith, inr (omega arith))
 
-pub turned : (n src dst : ℕ) → By-turns n src dst → By-turns n dst src
-turned n src dst (inl h) = inr (h .1, h .0)
-turned n src dst (inr h) = inl (h .1, h .0)
+pub swapped : (n src dst : ℕ) → By-turns n src dst → By-turns n dst src
+swapped n src dst (inl h) = inr (h .1, h .0)
+swapped n src dst (inr h) = inl (h .1, h .0)

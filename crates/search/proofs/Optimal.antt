@@ -1,4 +1,4 @@
--- The best starts to t, from the best ways to the starts before it.
+-- The best starts to t, from the best starts to each start that can precede it.
 use mathlib.Core.Path.{_≡_, refl, sym, _∙_, ap, subst}
 use mathlib.Core.List.{List, [], _∷_}
 use mathlib.Core.Bool.{Bool, true, false}
@@ -45,9 +45,9 @@ module _ {V : Type 0} (m : Tallying V) (order : Order (m .below)) (strict : Stri
   -- a stretch is added to one value only
   pub one-value : (a b : ℕ) (x y : V) → m .step a b x ≡ m .step a b y → x ≡ y
   one-value a b x y e =
-      let no-starts : (p q : V) → m .step a b p ≡ m .step a b q → m .below p q ≡ false = λ p q f.
+      let not-below : (p q : V) → m .step a b p ≡ m .step a b q → m .below p q ≡ false = λ p q f.
       elim (tell (m .below p q)) [ inr k ↦ k | inl k ↦ clash (subst (λ w. m .below w (m .step a b q) ≡ true) f (strict a b p q k)) (order .never (m .step a b q)) ] in
-      order .same x y (no-starts x y e) (no-starts y x (sym e))
+      order .same x y (not-below x y e) (not-below y x (sym e))
 
 no-later-both : (ds es : List ℕ) → No-later ds es → No-later es ds → ds ≡ es
 no-later-both [] [] p q = refl
@@ -69,7 +69,7 @@ module _ {V S : Type 0} (m : Tallying V) (n : Stages S) (order : Order (m .below
   best-least s t [] h (b ∷ bs) w = let e : t ≡ 0 = n .at-zero s t h in absurd (omega (arith, w .0))
   best-least s t (a ∷ more) h es w = h .2 es w
 
-  -- With the strict law, the best starts from the last start back is the latest of all that are tally-of as much.
+  -- with the strict law, the best starts are the latest of all that tally as much, from the last start back
   pub best-latest : Strict m → (s : S) (t : ℕ) (ds : List ℕ) → Best m n s t ds → (es : List ℕ) → Starts n s t es → tally-of m t es ≡ tally-of m t ds → No-later es ds
   best-latest strict s t [] h [] w e = tt
   best-latest strict s t [] h (b ∷ bs) w e = let z : t ≡ 0 = n .at-zero s t h in absurd (omega (arith, w .0))
@@ -88,7 +88,7 @@ module _ {V S : Type 0} (m : Tallying V) (n : Stages S) (order : Order (m .below
   pub best-wins : Strict m → (s : S) (t : ℕ) (ds : List ℕ) → Best m n s t ds → Winning-starts m n s t ds
   best-wins strict s t ds h = (best-starts s t ds h, best-least s t ds h, best-latest strict s t ds h)
 
-  -- one starts at most wins
+  -- at most one list of starts wins
   pub wins-one : (s : S) (t : ℕ) (ds es : List ℕ) → Winning-starts m n s t ds → Winning-starts m n s t es → ds ≡ es
   wins-one s t ds es p q =
       let even : tally-of m t ds ≡ tally-of m t es = order .same _ _ (q .1 ds (p .0)) (p .1 es (q .0)) in
@@ -96,7 +96,7 @@ module _ {V S : Type 0} (m : Tallying V) (n : Stages S) (order : Order (m .below
 
   module _ (weakly : Weak m) (s : S) (t : ℕ) (row : ℕ → Option V) (kept : ℕ → List ℕ → Type 0) (later : n .begins s t → ⊥)
       (rows : (a : ℕ) → a < t → Entry m n (kept a) (n .prev s) a (row a)) where
-    -- a starts to a start before t: the row has an entry there that is no more
+    -- where there are starts to b, the row has an entry that is no larger
     pub held : (b : ℕ) → b < t → (bs : List ℕ) → Starts n (n .prev s) b bs → (w : V) × (row b ≡ Some w) × (m .below (tally-of m b bs) w ≡ false)
     held b lt bs starts =
         let found : (o : Option V) → row b ≡ o → Entry m n (kept b) (n .prev s) b o → (w : V) × (row b ≡ Some w) × (m .below (tally-of m b bs) w ≡ false) =

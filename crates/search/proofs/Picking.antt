@@ -18,7 +18,7 @@ last : (b i : ℕ) → b < i + 1 → (b < i) ⊎ (b ≡ i)
 last b i h = elim (decLt b i) [ yes lt ↦ inl lt | no ge ↦ inr (omega arith) ]
 
 module _ {V : Type 0} (m : Tallying V) (can : ℕ → Type 0) (row : ℕ → Option V) (i t : ℕ) where
-  -- a start that has no entry or can not precede t
+  -- a start that has no entry or cannot precede t
   pub skips : (o : Option (V × ℕ)) → Picked m can row i t o → (can i → (w : V) → row i ≡ Some w → ⊥) → Picked m can row (i + 1) t o
   skips None h none = λ b lt ok w e.
       elim (last b i lt) [ inl l ↦ h b l ok w e | inr q ↦ none (subst can q ok) w (subst (λ x. row x ≡ Some w) q e) ]
@@ -62,7 +62,7 @@ module _ {V : Type 0} (m : Tallying V) (can : ℕ → Type 0) (row : ℕ → Opt
         ] in
         goal _ refl
 
--- starts that can not precede t
+-- starts that cannot precede t
 pub widens : {V : Type 0} (m : Tallying V) (can : ℕ → Type 0) (row : ℕ → Option V) (i j t : ℕ) (o : Option (V × ℕ)) → i ≤ j → ((b : ℕ) → i ≤ b → b < j → can b → ⊥)
     → Picked m can row i t o → Picked m can row j t o
 widens m can row i j t None le bar h = λ b lt ok w e. elim (decLt b i) [ yes l ↦ h b l ok w e | no ge ↦ bar b (omega arith) lt ok ]

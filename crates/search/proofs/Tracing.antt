@@ -53,7 +53,7 @@ pub at-zero : (a : ℕ) (more rest : List ℕ) → a ≤ 0 → Falling a more �
 at-zero a [] rest le f = refl
 at-zero a (b ∷ more) rest le f = absurd (omega (arith, f .0))
 
--- a trace of one line
+-- a trace of one row
 pub one-row : (trace : List ℕ) (r t : ℕ) (ds : List ℕ) → r ≡ 0 → Traced (λ (x : Unit {0}). x) (λ _ x. getD trace x 0) tt t ds → Traced (row-before 0) (start-at trace) r t ds
 one-row trace r t [] z h = tt
 one-row trace r t (a ∷ more) z h = let e : r + t ≡ t = omega arith in (ap (λ x. getD trace x 0) e ∙ h .0, one-row trace (r - 0) a more (omega arith) (h .1))
@@ -81,7 +81,7 @@ kept-start-same trace trace' w k t h =
       | no z ↦ (let e : k ≡ 0 = omega arith in subst (λ (k : ℕ). kept-start trace' w k t ≡ kept-start trace w k t) (sym e) refl)
     ]
 
--- a trace with a line for each stage
+-- a trace with a row for each stage
 pub by-rows : (can : ℕ → ℕ → Type 0) (trace : List ℕ) (w s r t : ℕ) (ds : List ℕ) → r ≡ (s - 1) * w → Starts (exactly can) s t ds → Traced (λ s. s - 1) (kept-start trace w) s t ds → Traced (row-before w) (start-at trace) r t ds
 by-rows can trace w s r t [] e starts h = tt
 by-rows can trace w s r t (a ∷ more) e starts h = (
@@ -89,19 +89,19 @@ by-rows can trace w s r t (a ∷ more) e starts h = (
   by-rows can trace w (s - 1) (r - w) a more (ap (λ (x : ℕ). x - w) e ∙ sym (row-less (s - 1) w)) (starts .2) (h .1),
 )
 
-module _ {V S : Type 0} (m : Tallying V) (n : Stages S) (order : Order (m .below)) (strict : Strict m) (fits : V → Type 0) (s : S) (t : ℕ) (kept laid : List ℕ → Type 0)
-    (lays : (ds : List ℕ) → Starts n s t ds → kept ds → laid ds) (o : Option V) (entry : Entry m n kept s t o) (v : V) where
+module _ {V S : Type 0} (m : Tallying V) (n : Stages S) (order : Order (m .below)) (strict : Strict m) (fits : V → Type 0) (s : S) (t : ℕ) (kept read : List ℕ → Type 0)
+    (reads : (ds : List ℕ) → Starts n s t ds → kept ds → read ds) (o : Option V) (entry : Entry m n kept s t o) (v : V) where
   there : Some v ≡ o → Entry m n kept s t (Some v)
   there e = subst (λ x. Entry m n kept s t x) (sym e) entry
 
-  pub leads : Some v ≡ o → (ds : List ℕ) × Falling t ds × laid ds
-  leads e = let h = there e in let starts = best-starts m n order s t (h .0) (h .1) in (h .0, starts-fall n s t (h .0) starts, lays (h .0) starts (h .3))
+  pub leads : Some v ≡ o → (ds : List ℕ) × Falling t ds × read ds
+  leads e = let h = there e in let starts = best-starts m n order s t (h .0) (h .1) in (h .0, starts-fall n s t (h .0) starts, reads (h .0) starts (h .3))
 
-  pub found-some : Some v ≡ o → (end : ℕ) (list : List ℕ) (from : ℕ) → fits v → from ≤ end → ((ds : List ℕ) → Falling t ds → laid ds → part from end list ≡ boundaries-of ds []) → Found m n fits s t end list (Some (v, from))
-  found-some e end list from fit le walked =
+  pub found-some : Some v ≡ o → (end : ℕ) (list : List ℕ) (from : ℕ) → fits v → from ≤ end → ((ds : List ℕ) → Falling t ds → read ds → part from end list ≡ boundaries-of ds []) → Found m n fits s t end list (Some (v, from))
+  found-some e end list from fit le boundaries =
       let h = there e in
       let starts = best-starts m n order s t (h .0) (h .1) in
-      (h .0, best-wins m n order strict s t (h .0) (h .1), h .2, fit, le, walked (h .0) (starts-fall n s t (h .0) starts) (lays (h .0) starts (h .3)))
+      (h .0, best-wins m n order strict s t (h .0) (h .1), h .2, fit, le, boundaries (h .0) (starts-fall n s t (h .0) starts) (reads (h .0) starts (h .3)))
 
 pub found-none : {V S : Type 0} (m : Tallying V) (n : Stages S) (fits : V → Type 0) (s : S) (t end : ℕ) (kept : List ℕ → Type 0) (list : List ℕ) (o : Option V) → Entry m n kept s t o → None ≡ o → Found m n fits s t end list None
 found-none m n fits s t end kept list o entry e = subst (λ x. Entry m n kept s t x) (sym e) entry

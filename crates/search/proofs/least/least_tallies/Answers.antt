@@ -13,7 +13,7 @@ use Rattle.constraints.specs.Ranges.{permitted}
 use Rattle.search.specs.Starts.{exactly}
 use Rattle.search.specs.Rows.{Traced, Least}
 use Rattle.search.proofs.Optimal.{weak}
-use Rattle.search.proofs.Filling.{exactly-first, forgotten, least-next, first-fits, fits-some, apart, turned}
+use Rattle.search.proofs.Filling.{exactly-first, forgotten, least-next, first-fits, fits-some, apart, swapped}
 use Rattle.search.proofs.least.least_tallies.Needs as need
 
 pub first-row-requires : need.first-row-requires
@@ -90,7 +90,7 @@ loop-k-again g c =
     let filled : (t : ℕ) → t < n + 1 → Least s (exactly can) (k + 1) t (after t) =
     least-next s can order (weak s order (λ a b x y. g .T·Tally·met .strict (c .args .tally .now) x y a (g .L·Loss .table (c .args .loss .now) .loss a b))) (m .fits) (k + 1) (n + 1) before after _ (omega arith) rows (done .0) in
     let kept : (a : ℕ) → a < n + 1 → last (dst + a) ≡ after a = λ a lt. c .put .ensures .others (dst + a) (λ q. omega (arith, sides .1)) in (
-      turned n src dst (c .loop-k .inv .0),
+      swapped n src dst (c .loop-k .inv .0),
       (λ t lt. subst (λ (o : Option V). Least s (exactly can) (k + 1) t o) (sym (kept t lt)) (filled t lt)),
       (λ a lt. subst (λ (o : Option V). BySome o (Unit {0}) (λ v. m .fits a v)) (sym (kept a lt)) (done .0 .small a lt)),
       λ j lt. elim (decLt j k) [

@@ -14,7 +14,7 @@ use Rattle.search.specs.Starts.{exactly}
 use Rattle.search.specs.Rows.{Row, Next-row, kept-start}
 use Rattle.constraints.specs.Ranges.{permitted}
 use Rattle.search.proofs.Optimal.{weak}
-use Rattle.search.proofs.Filling.{exactly-first, exactly-next, row-noted, first-fits, apart, turned}
+use Rattle.search.proofs.Filling.{exactly-first, exactly-next, row-noted, first-fits, apart, swapped}
 use Rattle.search.proofs.Tracing.{kept-start-at, kept-start-same}
 use Rattle.search.proofs.rows.fill_rows.Needs as need
 
@@ -82,7 +82,7 @@ loop-s-again g c =
     kept-start-same (c .loop-s .trace) (c .next-row .last .trace) (n + 1) k x (λ pos.
     (let above : k - 1 + 1 ≤ j = omega arith in
     done .1 ((k - 1) * (n + 1) + x) (omega (arith, mul-le-mul-right (n + 1) above, next-place (k - 1) (n + 1))))) in (
-      turned n (c .loop-s .src) (c .loop-s .dst) (c .loop-s .inv .0),
+      swapped n (c .loop-s .src) (c .loop-s .dst) (c .loop-s .inv .0),
       exactly-next s can order (weak s order (λ a b x y. g .T·Tally·met .strict (c .args .tally .now) x y a (g .L·Loss .table (c .args .loss .now) .loss a b)))
           (m .fits) (j + 1) (n + 1) start-for start-for' before after (omega arith) rows
           (row-noted s can (m .fits) before after (λ t a. j * (n + 1) + t < length (c .loop-s .trace) → getD (c .next-row .last .trace) (j * (n + 1) + t) 0 ≡ a) (λ t a. start-for' (j + 1) t ≡ a) (n + 1)
