@@ -4,6 +4,7 @@ use crate::problem::Problem;
 use crate::problem::ProblemFromFailure;
 use crate::problem::ProblemFromFault;
 use crate::problem::ProblemFromIo;
+use crate::show::Best;
 use crate::show::kind_name;
 use crate::show::show_best;
 use crate::show::show_comparison;
@@ -13,6 +14,7 @@ use crate::show::show_report;
 use command::Command;
 use command::read;
 use division::mark::Mark;
+use fault::Fault;
 use leaves::kind::LossKind;
 use list::List;
 use std::alloc::AllocError;
@@ -65,7 +67,7 @@ impl Console {
             Command::Price { penalty, gaps } => self.price(rt, penalty, gaps.as_slice()),
             Command::BestByPenalty(penalty) => self.best_by_penalty(rt, penalty),
             Command::BestByCount(count) => self.best_by_count(rt, count),
-            Command::Path => path(rt, &self.survey, &mut self.buffers),
+            Command::Path => self.path(rt),
         }
     }
 
@@ -114,50 +116,40 @@ impl Console {
         let report = self.survey.price(rt.alloc(), penalty, gaps)?;
         let shortest = self.survey.shortest();
         show_report(rt, penalty, shortest, gaps, &report)?;
-        compare(
+        let found = best_by_penalty(&self.survey, penalty, &mut self.buffers);
+        show_comparison(
             rt,
-            &self.survey,
-            penalty,
             gaps,
             report.total,
-            &mut self.buffers,
-        )
+            found,
+            self.buffers.boundaries.as_slice(),
+        )?;
+        Ok(())
     }
 
     fn best_by_penalty(&mut self, rt: &LibcRuntime, penalty: u64) -> Result<(), Problem> {
-        best_by_penalty(rt, &self.survey, penalty, &mut self.buffers)
+        let best = best_by_penalty(&self.survey, penalty, &mut self.buffers)?;
+        print!(rt, "best {penalty}: ")?;
+        show_best(rt, best, self.buffers.boundaries.as_slice())?;
+        Ok(())
     }
 
     fn best_by_count(&mut self, rt: &LibcRuntime, count: u16) -> Result<(), Problem> {
-        best_by_count(rt, &self.survey, count, &mut self.buffers)
+        let best = best_by_count(&self.survey, count, &mut self.buffers)?;
+        print!(rt, "best count {count}: ")?;
+        show_best(rt, best, self.buffers.boundaries.as_slice())?;
+        Ok(())
+    }
+
+    fn path(&mut self, rt: &LibcRuntime) -> Result<(), Problem> {
+        let steps = path(&self.survey, &mut self.buffers)?;
+        show_path(rt, self.buffers.steps.as_slice(), steps)?;
+        Ok(())
     }
 }
 
-fn compare(
-    rt: &LibcRuntime,
-    survey: &Survey,
-    penalty: u64,
-    gaps: &[u16],
-    total: u64,
-    buffers: &mut Buffers,
-) -> Result<(), Problem> {
-    let mut list = List::over(buffers.boundaries.as_mut_slice());
-    let best = survey.best_by_penalty(
-        penalty,
-        buffers.numbers.as_mut_slice(),
-        buffers.trace.as_mut_slice(),
-        &mut list,
-    );
-    show_comparison(rt, gaps, total, best, &mut list)?;
-    Ok(())
-}
-
-fn best_by_penalty(
-    rt: &LibcRuntime,
-    survey: &Survey,
-    penalty: u64,
-    buffers: &mut Buffers,
-) -> Result<(), Problem> {
+// The winner's boundaries into the buffer, and its total with their number.
+fn best_by_penalty(survey: &Survey, penalty: u64, buffers: &mut Buffers) -> Result<Best, Fault> {
     let mut list = List::over(buffers.boundaries.as_mut_slice());
     let total = survey.best_by_penalty(
         penalty,
@@ -165,17 +157,13 @@ fn best_by_penalty(
         buffers.trace.as_mut_slice(),
         &mut list,
     )?;
-    print!(rt, "best {penalty}: ")?;
-    show_best(rt, total, &mut list)?;
-    Ok(())
+    Ok(Best {
+        total,
+        boundaries: list.len(),
+    })
 }
 
-fn best_by_count(
-    rt: &LibcRuntime,
-    survey: &Survey,
-    count: u16,
-    buffers: &mut Buffers,
-) -> Result<(), Problem> {
+fn best_by_count(survey: &Survey, count: u16, buffers: &mut Buffers) -> Result<Best, Fault> {
     let mut list = List::over(buffers.boundaries.as_mut_slice());
     let total = survey.best_by_count(
         count,
@@ -183,14 +171,15 @@ fn best_by_count(
         buffers.trace.as_mut_slice(),
         &mut list,
     )?;
-    print!(rt, "best count {count}: ")?;
-    show_best(rt, total, &mut list)?;
-    Ok(())
+    Ok(Best {
+        total,
+        boundaries: list.len(),
+    })
 }
 
-fn path(rt: &LibcRuntime, survey: &Survey, buffers: &mut Buffers) -> Result<(), Problem> {
+// The path's steps into the buffer, and their number.
+fn path(survey: &Survey, buffers: &mut Buffers) -> Result<usize, Fault> {
     let mut list = List::over(buffers.steps.as_mut_slice());
     survey.path(buffers.numbers.as_mut_slice(), &mut list)?;
-    show_path(rt, &mut list)?;
-    Ok(())
+    Ok(list.len())
 }

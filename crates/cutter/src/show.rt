@@ -4,7 +4,6 @@ use division::mark::Mark;
 use envelope::Step;
 use fault::Fault;
 use leaves::kind::LossKind;
-use list::List;
 use std::io;
 
 const HELP: [&str; 12] = [
@@ -100,80 +99,84 @@ fn show_sums(rt: &LibcRuntime, shortest: u16, report: &Report) -> io::Result<()>
     println!(rt, "  {verdict}")
 }
 
-// The boundaries of a division, and its total.
-pub fn show_best(rt: &LibcRuntime, total: u64, list: &mut List<u16>) -> io::Result<()> {
-    show_boundaries(rt, list)?;
+// The winner: its total, and how many boundaries of the buffer are its own.
+#[derive(Clone, Copy)]
+pub struct Best {
+    pub total: u64,
+    pub boundaries: usize,
+}
+
+// The boundaries of the winner, and its total.
+pub fn show_best(rt: &LibcRuntime, best: Best, gaps: &[u16]) -> io::Result<()> {
+    show_boundaries(rt, best, gaps)?;
+    let total = best.total;
     println!(rt, ", total {total}")
 }
 
-fn show_boundaries(rt: &LibcRuntime, list: &mut List<u16>) -> io::Result<()> {
-    let count = list.len();
-    if count == 0 {
+fn show_boundaries(rt: &LibcRuntime, best: Best, gaps: &[u16]) -> io::Result<()> {
+    if best.boundaries == 0 {
         return print!(rt, "no boundary");
     }
     print!(rt, "boundaries")?;
-    for i in 0..count {
-        if let Some(gap) = list.get(i) {
-            print!(rt, " {gap}")?;
-        }
+    for gap in gaps.iter().take(best.boundaries) {
+        print!(rt, " {gap}")?;
     }
     Ok(())
 }
 
-// Is the list's division the one with these gaps?
-fn is_same(gaps: &[u16], list: &mut List<u16>) -> bool {
-    if gaps.len() != list.len() {
+// Are these the winner's boundaries?
+fn is_same(printed: &[u16], best: Best, gaps: &[u16]) -> bool {
+    if printed.len() != best.boundaries {
         return false;
     }
-    for (i, gap) in gaps.iter().enumerate() {
-        if list.get(i) != Some(*gap) {
+    for (a, b) in printed.iter().zip(gaps) {
+        if *a != *b {
             return false;
         }
     }
     true
 }
 
-// Whether the division with these gaps and this total is the winner, and else which one is.
+// Whether the division that was printed, of this total, is the winner, and else which one is.
 pub fn show_comparison(
     rt: &LibcRuntime,
-    gaps: &[u16],
+    printed: &[u16],
     total: u64,
-    best: Result<u64, Fault>,
-    list: &mut List<u16>,
+    found: Result<Best, Fault>,
+    gaps: &[u16],
 ) -> io::Result<()> {
-    match best {
-        Err(_) => println!(rt, "  no division is allowed"),
-        Ok(_) if is_same(gaps, list) => println!(rt, "  the winner"),
-        Ok(least) => {
-            print!(rt, "  the winner has ")?;
-            show_boundaries(rt, list)?;
-            if least <= total {
-                let less = total - least;
-                println!(rt, ", total {least}: {less} less")
-            } else {
-                let more = least - total;
-                println!(rt, ", total {least}: {more} more")
-            }
-        }
+    let best = match found {
+        Ok(best) => best,
+        Err(_) => return println!(rt, "  no division is allowed"),
+    };
+    if is_same(printed, best, gaps) {
+        return println!(rt, "  the winner");
+    }
+    print!(rt, "  the winner has ")?;
+    show_boundaries(rt, best, gaps)?;
+    let least = best.total;
+    if least <= total {
+        let less = total - least;
+        println!(rt, ", total {least}: {less} less")
+    } else {
+        let more = least - total;
+        println!(rt, ", total {least}: {more} more")
     }
 }
 
 // The steps of a path: from which penalty on how many boundaries are best.
-pub fn show_path(rt: &LibcRuntime, list: &mut List<Step>) -> io::Result<()> {
-    let steps = list.len();
-    println!(rt, "path: {steps} in all")?;
-    for i in 0..steps {
-        if let Some(step) = list.get(i) {
-            let Step {
-                penalty,
-                count,
-                loss,
-            } = step;
-            println!(
-                rt,
-                "  from penalty {penalty}: {count} boundaries, loss {loss}"
-            )?;
-        }
+pub fn show_path(rt: &LibcRuntime, steps: &[Step], count: usize) -> io::Result<()> {
+    println!(rt, "path: {count} in all")?;
+    for step in steps.iter().take(count) {
+        let Step {
+            penalty,
+            count,
+            loss,
+        } = *step;
+        println!(
+            rt,
+            "  from penalty {penalty}: {count} boundaries, loss {loss}"
+        )?;
     }
     Ok(())
 }
