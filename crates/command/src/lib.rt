@@ -1,4 +1,6 @@
 // The commands of the line cutter: one line of text, and what it asks.
+#![tactic(auto)]
+
 ghost use Rattle.command.specs.Line.{read_line};
 ghost use Rattle.command.specs.Said.{Answers, said};
 

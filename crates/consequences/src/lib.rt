@@ -1,4 +1,6 @@
 // What follows from the law over runs alone, whatever code keeps it: each theorem stands in a contract.
+#![tactic(auto)]
+
 ghost use Rattle.consequences.specs.Cuts.{SameCutSameDivision, ReopenedAndCutAgain};
 ghost use Rattle.consequences.specs.Paths.{LaidAndUnmarkedAgain};
 ghost use Rattle.consequences.specs.Words.{LaidMarkStands, UnmarkedStandsNoMore, ReopenedIsNotCut, ShortestLasts, FreshLineIsLawful, FreshLineIsNotCut};

@@ -1,4 +1,6 @@
 // Which stretches a line may be divided into, and the starts that can precede an end: always one range.
+#![tactic(auto)]
+
 ghost use Rattle.std.specs.Prelude.{ℕ, ◌≤◌, ◌↔◌};
 ghost use Rattle.division.specs.Stretches.{Permits};
 ghost use Rattle.constraints.specs.Ranges.{permitted, InRange};

@@ -1,4 +1,6 @@
 // The best allowed division of a line, by penalty and by count, and the least loss for each count.
+#![tactic(auto)]
+
 pub mod cuts;
 pub mod least;
 pub mod refusal;

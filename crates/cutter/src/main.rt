@@ -1,4 +1,6 @@
 // Reads commands on the standard input, one a line, and prints what it did or why it refused.
+#![tactic(auto)]
+
 use command::LONGEST;
 use input::LineFront;
 use std::io::Read;

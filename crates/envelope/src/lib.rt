@@ -1,5 +1,7 @@
 // The steps of the path: which count of boundaries is cheapest at each penalty, from the least loss for each count. Each count is a
 // straight line over the penalty, loss + penalty * count, and the steps are the lower envelope of these lines.
+#![tactic(auto)]
+
 ghost use Rattle.std.specs.Prelude.{◌≡◌, ◌<◌, ◌≤◌, ◌⊎◌, length, Some, MatchResult};
 ghost use Rattle.list.specs.Entries.{entries, places};
 ghost use Rattle.envelope.specs.Theorems.{PathNamesCheapest, OnePath, CountsFall, StepsBegin, OnlyCountsBelow};

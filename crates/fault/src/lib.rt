@@ -1,4 +1,6 @@
 // Why a call or an input line is refused: one enum for every layer, and the number that users know each cause by.
+#![tactic(auto)]
+
 ghost use Rattle.std.specs.Prelude.{◌≡◌};
 ghost use Rattle.fault.specs.Number.{number};
 ghost use Rattle.fault.specs.Name.{fault_name};

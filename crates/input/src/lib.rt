@@ -1,4 +1,6 @@
 // Lines out of bytes, in fixed memory: of a line of any length only the front is kept.
+#![tactic(auto)]
+
 ghost use Rattle.std.specs.Prelude.{◌≡◌, ◌≤◌, [], ◌∷◌, ◌++◌, take, vec_len, OnOk};
 
 use std::alloc::{AllocError, Global};

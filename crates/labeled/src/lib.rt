@@ -1,4 +1,6 @@
 // The labeled optimal partitioning problem, and that the winning division solves it for every loss that holds readings.
+#![tactic(auto)]
+
 ghost use Rattle.labeled.specs.Examples.{Examples};
 ghost use Rattle.labeled.specs.Problem.{WinnerSolves, WinnerKeptBetween, NoWinnerNoChoice, SolvedBy, RowSplits, OneLevel};
 

@@ -1,3 +1,5 @@
 // Losses that stand on other losses, to any depth.
+#![tactic(auto)]
+
 pub mod pair;
 pub mod weighted;

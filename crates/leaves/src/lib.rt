@@ -1,4 +1,6 @@
 // Losses that hold readings of their own: by squares, by distances and by votes.
+#![tactic(auto)]
+
 pub mod admit;
 pub mod distances;
 pub mod gather;

@@ -1,4 +1,6 @@
 // A line in its two states. The mark table, the lists, the buffers and the loss are lent at each call.
+#![tactic(auto)]
+
 mod cut_calls;
 mod marking_calls;
 

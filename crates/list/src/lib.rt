@@ -1,4 +1,6 @@
 // A list over a slice that the caller lends: its entries stand in the first places, and it never allocates.
+#![tactic(auto)]
+
 ghost use Rattle.std.specs.Prelude.{◌≡◌, [], ◌∷◌, ◌++◌, length, drop, if◌then◌else◌, Ok, Err, MatchResult, nat_le, nat_lt, slice_set};
 ghost use Rattle.fault.specs.declared.Fault.TheVariants.{ShortBuffer};
 ghost use Rattle.list.specs.Entries.{entries, places};

@@ -1,3 +1,5 @@
 // The path of a line: for every penalty, the number of boundaries and the loss of the division that a cut there gives.
+#![tactic(auto)]
+
 pub mod path;
 pub mod theorems;

@@ -1,4 +1,6 @@
 // The replies of a session, printed as upper-case hexadecimal.
+#![tactic(auto)]
+
 ghost use Rattle.std.specs.Prelude.{◌≡◌, ◌++◌, is_ok, if◌then◌else◌};
 ghost use Rattle.replies.specs.Answered.{refusal, answered, reply_bytes, reply_text};
 ghost use Rattle.replies.specs.Put.{Put};

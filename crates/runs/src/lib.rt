@@ -1,4 +1,6 @@
 // The calls of a line one after the other, and what whoever looks at the line between them or after them sees.
+#![tactic(auto)]
+
 pub mod model;
 pub mod opened;
 pub mod perform;

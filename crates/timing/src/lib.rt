@@ -1,5 +1,7 @@
 // The jobs of the benchmark as C functions, which bench/ links beside its plain Rust reference. Each job is run `times` times over
 // lent readings, and gives a digest of what it found.
+#![tactic(auto)]
+
 use cuts::cuts::{cut_by_count, cut_by_penalty};
 use envelope::Step;
 use layers::pair::Pair;

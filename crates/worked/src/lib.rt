@@ -1,4 +1,6 @@
 // Worked examples that are run, one file for each layer.
+#![tactic(auto)]
+
 #[cfg(test)]
 mod cutting;
 #[cfg(test)]
