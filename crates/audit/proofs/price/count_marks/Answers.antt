@@ -6,8 +6,8 @@ use Rattle.audit.proofs.price.count_marks.Goals as goal
 
 pub loop-mark-preserved : goal.loop-mark-preserved
 loop-mark-preserved c =
-    c.in-ok-push.ensures.items
-    ∙ counted_more c.args.gaps.now c.args.marks.now c.loop-mark.mark-index _ _ _ _ c.loop-mark-test.true c.loop-mark.invariant c.count-in-boundaries.ensures c.is-obeyed-obeyed.ensures
+    c.in_ok-push.ensures.items
+    ∙ counted_more c.args.gaps.now c.args.marks.now c.loop-mark.mark-index _ _ _ _ c.loop-mark-test.true c.loop-mark.invariant c.count_in-boundaries.ensures c.is_obeyed-obeyed.ensures
 
 pub returns : goal.returns
 returns c = c.loop-mark.invariant ∙ ap (map (counted c.args.gaps.now)) (take_all c.loop-mark.mark-index c.args.marks.now c.loop-mark-test.false)

@@ -6,21 +6,21 @@ pub price-stretches-requires : goal.price-stretches-requires
 price-stretches-requires g c =
     let t = g.L.Loss.table c.args.loss.now in
     let ds = c.args.gaps.now in
-    let d = is_division t.length c.length-n.result ds c.length-n.ensures c.if-not-is-division.ensures in
-    record { division = d; light = (opened t c.in-ok-check-opening.ensures).0 }
+    let d = is_division t.length c.length-n.result ds c.length-n.ensures c.if-not-is_division.ensures in
+    record { division = d; light = (opened t c.in_ok-check_opening.ensures).0 }
 
-pub overflow-mul-result : goal.overflow-mul-result
-overflow-mul-result g c =
+pub overflow_mul-result : goal.overflow_mul-result
+overflow_mul-result g c =
     let t = g.L.Loss.table c.args.loss.now in
     let ds = c.args.gaps.now in
-    let d = is_division t.length c.length-n.result ds c.length-n.ensures c.if-not-is-division.ensures in
-    let few = (opened t c.in-ok-check-opening.ensures).1 in
+    let d = is_division t.length c.length-n.result ds c.length-n.ensures c.if-not-is_division.ensures in
+    let few = (opened t c.in_ok-check_opening.ensures).1 in
     omega (arith, penalties_bound c.args.penalty t.length ds c.if-penalty-gt-LARGEST-PENALTY.false few d)
 
-pub overflow-add-result : goal.overflow-add-result
-overflow-add-result g c =
+pub overflow_add-result : goal.overflow_add-result
+overflow_add-result g c =
     let t = g.L.Loss.table c.args.loss.now in
     let ds = c.args.gaps.now in
-    let d = is_division t.length c.length-n.result ds c.length-n.ensures c.if-not-is-division.ensures in
-    let few = (opened t c.in-ok-check-opening.ensures).1 in
+    let d = is_division t.length c.length-n.result ds c.length-n.ensures c.if-not-is_division.ensures in
+    let few = (opened t c.in_ok-check_opening.ensures).1 in
     omega (arith, few, c.in-ok-stretches.ensures.bound, penalties_bound c.args.penalty t.length ds c.if-penalty-gt-LARGEST-PENALTY.false few d)

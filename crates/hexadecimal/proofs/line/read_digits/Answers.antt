@@ -8,7 +8,7 @@ loop-left-init c = (search rules, behind_none _, refl, search rules)
 pub loop-left-preserved : goal.loop-left-preserved
 loop-left-preserved c = (
   search rules,
-  c.loop-left.invariant.1 ∙ read_more c.loop-left.left.now c.loop-left.bytes c.loop-left.n c.in-ok-high.high c.in-ok-low.low (search rules) (search rules) (search rules) (search rules),
+  c.loop-left.invariant.1 ∙ read_more c.loop-left.left.now c.loop-left.bytes c.loop-left.n c.in_ok-high.high c.in_ok-low.low (search rules) (search rules) (search rules) (search rules),
   past_more c.loop-left.bytes c.args.bytes.now c.loop-left.n _ c.loop-left.invariant.2,
   search rules,
 )

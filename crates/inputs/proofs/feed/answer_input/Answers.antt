@@ -15,7 +15,7 @@ returns g c =
     let bytes = c.args.input.now in
     let new = c.new-reader.result in
     let first = begins (front_of new) new.lines s out c.new-reader.ensures.0 c.new-reader.ensures.1 in
-    let fed = c.in-ok-feed.ensures ∙ ap (λ r. fold (next step reply) r bytes) first in
-    let all = c.in-ok-finish.ensures ∙ ap (closed step reply) fed in
+    let fed = c.in_ok-feed.ensures ∙ ap (λ r. fold (next step reply) r bytes) first in
+    let all = c.in_ok-finish.ensures ∙ ap (closed step reply) fed in
     let w = whole_input step reply g.met.A.Answerer.stepped g.met.A.Answerer.replied s out bytes in
     record { after = ap (λ r. r.state) all ∙ w.after; printed = ap (λ r. r.text) all ∙ w.printed }

@@ -12,7 +12,7 @@ returns g c =
     let out = vec_items c.args.out.now in
     let line = front_of was in
     let text = g.A.Answerer.reply s line (was.lines + 1) in
-    let h = simp sub-zero at c.in-ok-answer.ensures.printed in
+    let h = simp sub-zero at c.in_ok-answer.ensures.printed in
     line_ends g.A.Answerer.step g.A.Answerer.reply line out (vec_items c.push.new.self) was.lines s (g.A.Answerer.state c.answer.new.self)
-    (simp sub-zero at c.in-ok-answer.ensures.after)
-    (c.in-ok-push.ensures.items ∙ ap (λ (xs : List ℕ). xs ++ 10 ∷ []) h ∙ append_assoc out text (10 ∷ []))
+    (simp sub-zero at c.in_ok-answer.ensures.after)
+    (c.in_ok-push.ensures.items ∙ ap (λ (xs : List ℕ). xs ++ 10 ∷ []) h ∙ append_assoc out text (10 ∷ []))

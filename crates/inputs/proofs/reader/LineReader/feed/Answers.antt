@@ -8,7 +8,7 @@ pub loop-byte-preserved : goal.loop-byte-preserved
 loop-byte-preserved g c =
     let turn = next g.A.Answerer.step g.A.Answerer.reply in
     let was = read_by c.args.self.now (g.A.Answerer.state c.args.answerer.now) (vec_items c.args.out.now) in
-    c.in-ok-byte.ensures ∙ ap (λ r. turn r (get_or c.args.part.now c.loop-byte.byte-index 0)) c.loop-byte.invariant
+    c.in_ok-byte.ensures ∙ ap (λ r. turn r (get_or c.args.part.now c.loop-byte.byte-index 0)) c.loop-byte.invariant
     ∙ sym (fold_more turn was c.args.part.now c.loop-byte.byte-index 0 c.loop-byte-test.true)
 
 pub returns : goal.returns
