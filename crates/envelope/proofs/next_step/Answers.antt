@@ -11,4 +11,4 @@ returns-in-None c =
 pub returns-in-Some : goal.returns-in-Some
 returns-in-Some c =
     next_some (losses_in c.args.losses.now) (length c.args.losses.now) c.args.at (((path_names_cheapest _ _ _).some c.args.at).0 c.requires.best)
-    c.in-Some.penalty c.in-Some.ensures c.best-at.result (sym c.best-at.ensures)
+    c.in-Some.penalty c.in-Some.ensures c.best_at.result (sym c.best_at.ensures)

@@ -16,4 +16,4 @@ loop-next-preserved c =
 pub returns : goal.returns
 returns c =
     ended c.args.losses.now c.args.list.now c.clear.new.self c.add.new.list c.loop-next.list c.loop-next.at c.args.first
-    c.clear.ensures.places c.clear.ensures.lender c.clear.ensures.entries c.add.ensures c.loop-next.invariant c.in-default.ensures
+    c.clear.ensures.places c.clear.ensures.lender c.clear.ensures.entries c.add.ensures c.loop-next.invariant c.in_default.ensures

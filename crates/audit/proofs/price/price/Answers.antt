@@ -2,8 +2,8 @@ use Rattle.std.proofs.Common.{arith}
 use Rattle.audit.proofs.Along.{is_division, opened, penalties_bound}
 use Rattle.audit.proofs.price.price.Goals as goal
 
-pub price-stretches-requires : goal.price-stretches-requires
-price-stretches-requires g c =
+pub price_stretches-requires : goal.price_stretches-requires
+price_stretches-requires g c =
     let t = g.L.Loss.table c.args.loss.now in
     let ds = c.args.gaps.now in
     let d = is_division t.length c.length-n.result ds c.length-n.ensures c.if-not-is_division.ensures in
@@ -15,7 +15,7 @@ overflow_mul-result g c =
     let ds = c.args.gaps.now in
     let d = is_division t.length c.length-n.result ds c.length-n.ensures c.if-not-is_division.ensures in
     let few = (opened t c.in_ok-check_opening.ensures).1 in
-    omega (arith, penalties_bound c.args.penalty t.length ds c.if-penalty-gt-LARGEST-PENALTY.false few d)
+    omega (arith, penalties_bound c.args.penalty t.length ds c.if-penalty-gt-LARGEST_PENALTY.false few d)
 
 pub overflow_add-result : goal.overflow_add-result
 overflow_add-result g c =
@@ -23,4 +23,4 @@ overflow_add-result g c =
     let ds = c.args.gaps.now in
     let d = is_division t.length c.length-n.result ds c.length-n.ensures c.if-not-is_division.ensures in
     let few = (opened t c.in_ok-check_opening.ensures).1 in
-    omega (arith, few, c.in-ok-stretches.ensures.bound, penalties_bound c.args.penalty t.length ds c.if-penalty-gt-LARGEST-PENALTY.false few d)
+    omega (arith, few, c.in_ok-stretches.ensures.bound, penalties_bound c.args.penalty t.length ds c.if-penalty-gt-LARGEST_PENALTY.false few d)

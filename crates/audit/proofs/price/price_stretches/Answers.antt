@@ -14,7 +14,7 @@ pub overflow_add-sum : goal.overflow_add-sum
 overflow_add-sum g c =
     let t = g.L.Loss.table c.args.loss.now in
     let l = again t c.args.gaps.now c.loop-gap.gap-index c.loop-gap.start c.loop-gap.sum (vec_items c.loop-gap.stretches) (vec_items c.push.new.self) c.in_ok-lost.lost (g.L.Loss.sound c.args.loss.now) c.requires.light c.loop-gap-test.true c.loop-gap.invariant c.in_ok-lost.ensures c.in_ok-push.ensures.items in
-    omega (arith, l.small, c.type-inv.gaps c.loop-gap.gap-index)
+    omega (arith, l.small, c.type_inv.gaps c.loop-gap.gap-index)
 
 pub loop-gap-preserved : goal.loop-gap-preserved
 loop-gap-preserved g c =

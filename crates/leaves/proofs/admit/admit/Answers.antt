@@ -8,10 +8,10 @@ fits : (c : goal.After-from-2) → between c.args.lo c.args.span c.args.x ≡ tr
 fits c =
     let x_Fits = c.ranges.x in
     let lo-fits = c.ranges.lo in
-    sym (simp to_z-of_z at c.if-not-is-between.ensures)
+    sym (simp to_z-of_z at c.if-not-is_between.ensures)
 
-pub overflow-cast-result : goal.overflow-cast-result
-overflow-cast-result c = let h = between_tells c.args.lo c.args.span c.args.x (fits c) in (grind (arith, ints), grind (arith, ints))
+pub overflow_cast-result : goal.overflow_cast-result
+overflow_cast-result c = let h = between_tells c.args.lo c.args.span c.args.x (fits c) in (grind (arith, ints), grind (arith, ints))
 
 pub returns : goal.returns
 returns c =

@@ -9,7 +9,7 @@ pub loop-u-preserved : goal.loop-u-preserved
 loop-u-preserved c =
     let us = c.args.us.now in
     let m = sum_more (λ u. distance (apart c.args.v u)) us c.loop-u.u-index c.loop-u-test.true in
-    (omega (arith, m, c.loop-u.invariant.0, c.from-sum.ensures, c.abs-diff.ensures), omega (arith, c.loop-u.invariant.1, c.from-sum.ensures, c.abs-diff.type-inv))
+    (omega (arith, m, c.loop-u.invariant.0, c.from-sum.ensures, c.abs_diff.ensures), omega (arith, c.loop-u.invariant.1, c.from-sum.ensures, c.abs_diff.type_inv))
 
 pub returns : goal.returns
 returns c =

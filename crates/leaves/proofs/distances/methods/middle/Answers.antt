@@ -6,14 +6,14 @@ use Rattle.leaves.proofs.distances.methods.middle.Goals as goal
 pub loop-low-init : goal.loop-low-init
 loop-low-init c =
     let us = c.args.us.now in
-    (omega arith, omega arith, omega (arith, all_under 65535 us (λ i h. omega (arith, c.type-inv.us i))), λ k h. absurd (omega arith))
+    (omega arith, omega arith, omega (arith, all_under 65535 us (λ i h. omega (arith, c.type_inv.us i))), λ k h. absurd (omega arith))
 
 pub loop-low-preserved-then-c-n : goal.loop-low-preserved-then-c-n
 loop-low-preserved-then-c-n c = (
   omega (arith, c.loop-low.invariant.0, c.loop-low-test.true),
   c.loop-low.invariant.1,
   c.loop-low.invariant.2,
-  half_below c.args.us.now (c.loop-low.low + (c.loop-low.high - c.loop-low.low) / 2) c.count-up-to-c.result (length c.args.us.now) c.count-up-to-c.ensures.value refl c.if-c-n.true,
+  half_below c.args.us.now (c.loop-low.low + (c.loop-low.high - c.loop-low.low) / 2) c.count_up_to-c.result (length c.args.us.now) c.count_up_to-c.ensures.value refl c.if-c-n.true,
 )
 
 pub returns : goal.returns

@@ -4,9 +4,9 @@ use Rattle.marks.proofs.Order.{allowed, lay_keeps}
 use Rattle.marks.proofs.Pass.{length_marks}
 use Rattle.marks.proofs.table.MarkTable.lay.Goals as goal
 
-pub invariant-of-result : goal.invariant-of-result
-invariant-of-result c =
+pub invariant_of-result : goal.invariant_of-result
+invariant_of-result c =
     let whole : length c.insert.new.marks ≡ 64 = omega arith in
     let few : c.args.self.len + 1 ≤ 64 =
-    omega (arith, (allowed c.args.n c.args.mark (marks_of c.args.self) c.in-default.ensures).room, length_marks c.args.self) in
-    (whole, (few, (lay_keeps c.args.n c.args.mark (marks_of c.args.self) _ _ c.args.self.rising c.in-default.ensures c.place-at.ensures.value c.insert.ensures, tt)))
+    omega (arith, (allowed c.args.n c.args.mark (marks_of c.args.self) c.in_default.ensures).room, length_marks c.args.self) in
+    (whole, (few, (lay_keeps c.args.n c.args.mark (marks_of c.args.self) _ _ c.args.self.rising c.in_default.ensures c.place-at.ensures.value c.insert.ensures, tt)))

@@ -13,11 +13,11 @@ returns-in-err-u c =
 pub invariant-of-self : goal.invariant-of-self
 invariant-of-self c =
     let x = c.args.self.now in
-    let t = grown lowest 65535 x.len x.items x.few x.room c.args.x c.ranges.x x.low c.in-ok-u.u c.in-ok-u.ensures in
+    let t = grown lowest 65535 x.len x.items x.few x.room c.args.x c.ranges.x x.low c.in_ok-u.u c.in_ok-u.ensures in
     (t.few, (t.whole, (t.low, tt)))
 
 pub returns : goal.returns
 returns c =
     let x = c.args.self.now in
-    let t = grown lowest 65535 x.len x.items x.few x.room c.args.x c.ranges.x x.low c.in-ok-u.u c.in-ok-u.ensures in
+    let t = grown lowest 65535 x.len x.items x.few x.room c.args.x c.ranges.x x.low c.in_ok-u.u c.in_ok-u.ensures in
     record { result = t.result; holds = t.holds }

@@ -7,25 +7,25 @@ use Rattle.leaves.proofs.Grown.{counts_more, wide_more, hit_le}
 use Rattle.leaves.proofs.Parts.{sum_le}
 use Rattle.leaves.proofs.votes.methods.VotesLeaf.push.Goals as goal
 
-pub returns-in-err-u : goal.returns-in-err-u
-returns-in-err-u c =
+pub returns-in_err-u : goal.returns-in_err-u
+returns-in_err-u c =
     let x = c.args.self.now in
-    let p = err_from_is_err_and c.from-residual.result c.from-residual.ensures.1 in
-    let t = refused (pos 0) 15 x.len x.items x.few x.room c.args.x c.ranges.x c.in-err-u.field-0.0 c.in-err-u.ensures in
+    let p = err_from_is_err_and c.from_residual.result c.from_residual.ensures.1 in
+    let t = refused (pos 0) 15 x.len x.items x.few x.room c.args.x c.ranges.x c.in_err-u.field-0.0 c.in_err-u.ensures in
     record { result = cc (p.1, p.2, t.0); holds = t.1 }
 
-pub overflow-add-row : goal.overflow-add-row
-overflow-add-row c =
+pub overflow_add-row : goal.overflow_add-row
+overflow_add-row c =
     let x = c.args.self.now in
-    let u = c.in-ok-u.u in
+    let u = c.in_ok-u.u in
     let s = sum_le (hit u) 1 (take x.len x.items) (hit_le u) in
     omega (arith, x.tallied x.len u (omega arith), s, length-take x.len x.items, x.few)
 
-pub invariant-of-self : goal.invariant-of-self
-invariant-of-self c =
+pub invariant_of-self : goal.invariant_of-self
+invariant_of-self c =
     let x = c.args.self.now in
-    let u = c.in-ok-u.u in
-    let t = grown (pos 0) 15 x.len x.items x.few x.room c.args.x c.ranges.x x.low u c.in-ok-u.ensures in
+    let u = c.in_ok-u.u in
+    let t = grown (pos 0) 15 x.len x.items x.few x.room c.args.x c.ranges.x x.low u c.in_ok-u.ensures in
     let lr : x.len < length x.items = omega (arith, x.room, t.room) in
     let lc : x.len + 1 < length x.counts = search rules in
     let lw : length (get_or x.counts x.len []) ≡ 16 = x.wide x.len (omega (arith, t.room)) in
@@ -36,5 +36,5 @@ invariant-of-self c =
 pub returns : goal.returns
 returns c =
     let x = c.args.self.now in
-    let t = grown (pos 0) 15 x.len x.items x.few x.room c.args.x c.ranges.x x.low c.in-ok-u.u c.in-ok-u.ensures in
+    let t = grown (pos 0) 15 x.len x.items x.few x.room c.args.x c.ranges.x x.low c.in_ok-u.u c.in_ok-u.ensures in
     record { result = t.result; holds = t.holds }

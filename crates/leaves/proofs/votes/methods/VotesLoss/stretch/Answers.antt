@@ -12,20 +12,20 @@ returns-then-a-b c =
     let e = length_held (pos 0) x.len x.items (omega (arith, x.few, x.room)) in
     simp e (search rules)
 
-pub most-votes-most-requires : goal.most-votes-most-requires
-most-votes-most-requires c =
+pub most_votes-most-requires : goal.most_votes-most-requires
+most_votes-most-requires c =
     let x = c.args.self.now in
     (search rules, (search rules, λ k h. rows_rise x c.args.a c.args.b c.if-a-b.false c.if-to-self.false k))
 
-pub overflow-sub-b-2 : goal.overflow-sub-b-2
-overflow-sub-b-2 c =
-    let most = c.most-votes-most in
+pub overflow_sub-b-2 : goal.overflow_sub-b-2
+overflow_sub-b-2 c =
+    let most = c.most_votes-most in
     (most_is c.args.self.now c.args.a c.args.b c.if-a-b.false c.if-to-self.false most.result most.ensures.top most.ensures.reached).0
 
 pub returns : goal.returns
 returns c =
     let x = c.args.self.now in
-    let most = c.most-votes-most in
+    let most = c.most_votes-most in
     let t = (most_is x c.args.a c.args.b c.if-a-b.false c.if-to-self.false most.result most.ensures.top most.ensures.reached).1 in
     let e = length_held (pos 0) x.len x.items (omega (arith, x.few, x.room)) in
     answer_is (table_of differs 1 (votes_readings x)) c.args.a c.args.b c.from.result (omega arith) c.if-a-b.false (omega (arith, e, c.if-to-self.false)) (c.from.ensures ∙ t)
