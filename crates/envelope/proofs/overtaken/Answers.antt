@@ -15,7 +15,7 @@ bounds-losses-from c =
 pub crosses-requires : goal.crosses-requires
 crosses-requires c =
     let u : Cheapest (losses_in c.args.losses.now) (length c.args.losses.now) c.args.at.penalty c.args.at = ((path_names_cheapest _ _ _).some c.args.at).0 c.requires.best in
-    (c.loop-j-test.true, dear_or_absent c.args.losses.now (length c.args.losses.now) c.args.at c.from.result u (omega arith))
+    record { count_lt_count = c.loop-j-test.true; fact = dear_or_absent c.args.losses.now (length c.args.losses.now) c.args.at c.from.result u (omega arith) }
 
 pub loop-j-preserved : goal.loop-j-preserved
 loop-j-preserved c =

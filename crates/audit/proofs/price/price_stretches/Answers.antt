@@ -26,7 +26,7 @@ pub returns-in_err-lost-2 : goal.returns-in_err-lost-2
 returns-in_err-lost-2 g c =
     let t = g.L.Loss.table c.args.loss.now in
     let r = last_rises t c.args.gaps.now c.loop-gap.gap-index c.loop-gap.start c.loop-gap.sum (vec_items c.loop-gap.stretches) c.loop-gap-test.false c.loop-gap.invariant in
-    absurd (never_refused t c.loop-gap.start c.length-end.result _ c.requires.light (omega (arith, r, c.length-end.ensures)) (omega (arith, c.length-end.ensures)) c.in-err-lost-2.ensures)
+    absurd (never_refused t c.loop-gap.start c.length-end.result _ c.requires.light (omega (arith, r, c.length-end.ensures)) (omega (arith, c.length-end.ensures)) c.in_err-lost-2.ensures)
 
 pub overflow_add-result : goal.overflow_add-result
 overflow_add-result g c =

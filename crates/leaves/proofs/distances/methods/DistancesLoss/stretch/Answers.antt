@@ -24,4 +24,4 @@ returns c =
     let t = loss_of_is distance rising_distance lowest x.len x.items c.args.a c.args.b (omega (arith, c.if-a-b.false)) c.if-to-self.false c.middle.result c.middle.ensures in
     answer_is (table_of distance 65535 (distances_readings x)) c.args.a c.args.b c.from.result (omega arith) c.if-a-b.false
     (omega (arith, length_held lowest x.len x.items (omega (arith, x.few, x.room)), c.if-to-self.false))
-    (c.from.ensures ∙ c.cost-about.ensures ∙ sym t)
+    (c.from.ensures ∙ c.cost_about.ensures ∙ sym t)

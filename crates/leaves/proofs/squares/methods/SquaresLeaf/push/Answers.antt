@@ -10,8 +10,8 @@ use Rattle.leaves.proofs.squares.methods.SquaresLeaf.push.Goals as goal
 pub returns-in_err-u : goal.returns-in_err-u
 returns-in_err-u c =
     let x = c.args.self.now in
-    let p = err_from_is_err_and c.from-residual.result c.from-residual.ensures.1 in
-    let t = refused lowest 65535 x.len x.items x.few x.room c.args.x c.ranges.x c.in-err-u.field-0.0 c.in-err-u.ensures in
+    let p = err_from_is_err_and c.from_residual.result c.from_residual.ensures.1 in
+    let t = refused lowest 65535 x.len x.items x.few x.room c.args.x c.ranges.x c.in_err-u.field-0.0 c.in_err-u.ensures in
     record { result = cc (p.1, p.2, t.0); holds = t.1 }
 
 pub overflow_add-self : goal.overflow_add-self
@@ -37,7 +37,7 @@ invariant_of-self c =
     let e = c.from-wide.ensures in
     let adds = before_more itself x.len x.items x.sums u _ lr ls x.adds (rw e) in
     let powers = before_more squared x.len x.items x.squares u _ lr lq x.powers (rw e) in
-    (t.few, (t.whole, (t.low, (adds, (powers, tt)))))
+    record { few = t.few; room = t.whole; low = t.low; adds = adds; powers = (powers, tt) }
 
 pub returns : goal.returns
 returns c =

@@ -6,32 +6,32 @@ use Rattle.leaves.proofs.Answered.{answer_is}
 use Rattle.leaves.proofs.Mean.{found}
 use Rattle.leaves.proofs.squares.methods.SquaresLoss.stretch.Goals as goal
 
-pub overflow-sub-s : goal.overflow-sub-s
-overflow-sub-s c = (found c.args.self.now c.args.a c.args.b c.if-a-b.false c.if-to-self.false).sums
+pub overflow_sub-s : goal.overflow_sub-s
+overflow_sub-s c = (found c.args.self.now c.args.a c.args.b c.if-a-b.false c.if-to-self.false).sums
 
-pub overflow-sub-q : goal.overflow-sub-q
-overflow-sub-q c = (found c.args.self.now c.args.a c.args.b c.if-a-b.false c.if-to-self.false).squares
+pub overflow_sub-q : goal.overflow_sub-q
+overflow_sub-q c = (found c.args.self.now c.args.a c.args.b c.if-a-b.false c.if-to-self.false).squares
 
-pub nearest-level-v-requires : goal.nearest-level-v-requires
-nearest-level-v-requires c =
+pub nearest_level-v-requires : goal.nearest_level-v-requires
+nearest_level-v-requires c =
     let f = found c.args.self.now c.args.a c.args.b c.if-a-b.false c.if-to-self.false in
     let few = c.args.self.now.few in
     (omega arith, (omega arith, f.sum_low))
 
-pub overflow-add-result : goal.overflow-add-result
-overflow-add-result c =
+pub overflow_add-result : goal.overflow_add-result
+overflow_add-result c =
     let f = found c.args.self.now c.args.a c.args.b c.if-a-b.false c.if-to-self.false in
-    let v = c.nearest-level-v.result in
+    let v = c.nearest_level-v.result in
     let n = c.args.b - c.args.a in
     let few : n ≤ 512 = omega (arith, c.args.self.now.few, c.if-to-self.false) in
-    let p : n * v ≤ 512 * 65536 = mul-le-mul few c.nearest-level-v.ensures.small in
-    let r : n * v * v ≤ 512 * 65536 * 65536 = mul-le-mul p c.nearest-level-v.ensures.small in
+    let p : n * v ≤ 512 * 65536 = mul-le-mul few c.nearest_level-v.ensures.small in
+    let r : n * v * v ≤ 512 * 65536 * 65536 = mul-le-mul p c.nearest_level-v.ensures.small in
     omega (arith, f.square_low)
 
-pub overflow-sub-result : goal.overflow-sub-result
-overflow-sub-result c =
+pub overflow_sub-result : goal.overflow_sub-result
+overflow_sub-result c =
     let f = found c.args.self.now c.args.a c.args.b c.if-a-b.false c.if-to-self.false in
-    omega (arith, f.value c.nearest-level-v.result c.nearest-level-v.ensures.value)
+    omega (arith, f.value c.nearest_level-v.result c.nearest_level-v.ensures.value)
 
 pub returns-then-a-b : goal.returns-then-a-b
 returns-then-a-b c =
@@ -45,4 +45,4 @@ returns c =
     let f = found x c.args.a c.args.b c.if-a-b.false c.if-to-self.false in
     let e = length_held lowest x.len x.items (omega (arith, x.few, x.room)) in
     answer_is (table_of square (2 ^ 32) (squares_readings x)) c.args.a c.args.b _ (omega arith) c.if-a-b.false (omega (arith, e, c.if-to-self.false))
-    (omega (arith, f.value c.nearest-level-v.result c.nearest-level-v.ensures.value))
+    (omega (arith, f.value c.nearest_level-v.result c.nearest_level-v.ensures.value))
