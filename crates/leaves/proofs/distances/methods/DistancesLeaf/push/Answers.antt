@@ -14,7 +14,7 @@ pub invariant_of-self : goal.invariant_of-self
 invariant_of-self c =
     let x = c.args.self.now in
     let t = grown lowest 65535 x.len x.items x.few x.room c.args.x c.ranges.x x.low c.in_ok-u.u c.in_ok-u.ensures in
-    record { few = t.few; room = t.whole; low = (t.low, tt) }
+    record { few = t.few; room = t.whole; low = t.low }
 
 pub returns : goal.returns
 returns c =

@@ -37,7 +37,7 @@ invariant_of-self c =
     let e = c.from-wide.ensures in
     let adds = before_more itself x.len x.items x.sums u _ lr ls x.adds (rw e) in
     let powers = before_more squared x.len x.items x.squares u _ lr lq x.powers (rw e) in
-    record { few = t.few; room = t.whole; low = t.low; adds = adds; powers = (powers, tt) }
+    record { few = t.few; room = t.whole; low = t.low; adds = adds; powers = powers }
 
 pub returns : goal.returns
 returns c =

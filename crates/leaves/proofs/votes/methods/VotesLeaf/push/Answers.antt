@@ -31,7 +31,7 @@ invariant_of-self c =
     let lw : length (get_or x.counts x.len []) ≡ 16 = x.wide x.len (omega (arith, t.room)) in
     let wide = wide_more x.len x.counts u lc t.room x.wide in
     let tallied = counts_more x.len x.items x.counts u lr lc (omega (arith, lw, t.small)) x.tallied in
-    record { few = t.few; room = t.whole; low = t.low; wide = wide; tallied = (tallied, tt) }
+    record { few = t.few; room = t.whole; low = t.low; wide = wide; tallied = tallied }
 
 pub returns : goal.returns
 returns c =
