@@ -5,14 +5,14 @@ use Rattle.command.proofs.number.natural.Goals as goal
 
 pub returns-in_err-digit : goal.returns-in_err-digit
 returns-in_err-digit c =
-    c.from-residual.ensures
-    ∙ sym (c.loop-b.invariant.0 ∙ ap (capped (2 ^ 64 - 1)) (digit_none c.args.word.now c.loop-b.b-index c.loop-b.n c.loop-b-test.true c.in-err-digit.ensures))
+    c.from_residual.ensures
+    ∙ sym (c.loop-b.invariant.0 ∙ ap (capped (2 ^ 64 - 1)) (digit_none c.args.word.now c.loop-b.b-index c.loop-b.n c.loop-b-test.true c.in_err-digit.ensures))
 
 pub loop-b-preserved : goal.loop-b-preserved
 loop-b-preserved c =
     let d = c.in_ok-digit.field-0 in
     let after = drop (c.loop-b.b-index + 1) c.args.word.now in
-    let n-is : min (min (c.loop-b.n * 10) (2 ^ 64 - 1) + d) (2 ^ 64 - 1) ≡ c.saturating-add-n.result = omega arith in (
+    let n-is : min (min (c.loop-b.n * 10) (2 ^ 64 - 1) + d) (2 ^ 64 - 1) ≡ c.saturating_add-n.result = omega arith in (
       c.loop-b.invariant.0
           ∙ digit_more (2 ^ 64 - 1) c.args.word.now c.loop-b.b-index c.loop-b.n d c.loop-b-test.true c.in_ok-digit.ensures
           ∙ ap (λ n. capped (2 ^ 64 - 1) (decimal_after n after)) n-is,

@@ -8,18 +8,18 @@ use Rattle.frames.proofs.frame.from_line.Goals as goal
 
 pub returns-in_err-n : goal.returns-in_err-n
 returns-in_err-n c =
-    let p = err_from_is_err_and c.from-residual.result c.from-residual.ensures.1 in
-    rw (p.1, p.2) (refused c.args.size (line_bytes c.args.line.now) _ c.in-err-n.ensures.value)
+    let p = err_from_is_err_and c.from_residual.result c.from_residual.ensures.1 in
+    rw (p.1, p.2) (refused c.args.size (line_bytes c.args.line.now) _ c.in_err-n.ensures.value)
 
 pub slice_bounds-from_bytes-end : goal.slice_bounds-from_bytes-end
 slice_bounds-from_bytes-end c =
     let e = c.in_ok-n.ensures in
-    let front = at_front (line_bytes c.args.line.now) c.args.buffer.now c.read-line.new.bytes c.in_ok-n.n e.value e.after in
+    let front = at_front (line_bytes c.args.line.now) c.args.buffer.now c.read_line.new.bytes c.in_ok-n.n e.value e.after in
     let h : c.in_ok-n.n ≤ 65 = omega arith in
     search rules
 
 pub returns : goal.returns
 returns c =
     let e = c.in_ok-n.ensures in
-    let front = at_front (line_bytes c.args.line.now) c.args.buffer.now c.read-line.new.bytes c.in_ok-n.n e.value e.after in
-    simp sub-zero at c.from-bytes.ensures ∙ sym (ap (frame_of c.args.size) front.bytes)
+    let front = at_front (line_bytes c.args.line.now) c.args.buffer.now c.read_line.new.bytes c.in_ok-n.n e.value e.after in
+    simp sub-zero at c.from_bytes.ensures ∙ sym (ap (frame_of c.args.size) front.bytes)

@@ -7,8 +7,8 @@ use Rattle.search.proofs.Picking.{fits_of}
 use Rattle.search.proofs.Tracing.{leads, found_some, one_row, by_rows}
 use Rattle.search.proofs.best.best_of_all.Goals as goal
 
-pub read-back-from-requires : goal.read-back-from-requires
-read-back-from-requires g c =
+pub read_back-from-requires : goal.read_back-from-requires
+read_back-from-requires g c =
     let m = g.T.Tally in
     let s : Tallying g.row.T-Value.Denot = tallying m.zero m.added m.below c.args.tally.now (g.L.Loss.table c.args.loss.now).loss in
     let n : ℕ = c.args.n in

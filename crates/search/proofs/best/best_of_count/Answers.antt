@@ -19,8 +19,8 @@ last_line s w pos =
     let d : (s - 1 + 1) * w ≡ (s - 1) * w + w = add-mul (s - 1) 1 w ∙ ap (λ (x : ℕ). (s - 1) * w + x) (one-mul w) in
     sym d ∙ ap (λ (x : ℕ). x * w) e
 
-pub read-back-from-requires : goal.read-back-from-requires
-read-back-from-requires g c =
+pub read_back-from-requires : goal.read_back-from-requires
+read_back-from-requires g c =
     let m = g.T.Tally in
     let s : Tallying g.row.T-Value.Denot = tallying m.zero m.added m.below c.args.tally.now (g.L.Loss.table c.args.loss.now).loss in
     let n : ℕ = c.args.n in

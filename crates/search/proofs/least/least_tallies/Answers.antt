@@ -8,13 +8,13 @@ use Rattle.search.proofs.Optimal.{weak}
 use Rattle.search.proofs.Filling.{exactly_first, forgotten, least_next, first_fits, fits_some, apart, swapped}
 use Rattle.search.proofs.least.least_tallies.Goals as goal
 
-pub first-row-requires : goal.first-row-requires
-first-row-requires g c =
+pub first_row-requires : goal.first_row-requires
+first_row-requires g c =
     let le : c.args.n + 1 ≤ 3 * (c.args.n + 1) = omega arith in
     omega (arith, mul-le-mul_left g.T.Tally.stride le, c.requires.room)
 
-pub next-row-requires : goal.next-row-requires
-next-row-requires g c =
+pub next_row-requires : goal.next_row-requires
+next_row-requires g c =
     let n : ℕ = c.args.n in
     let within : (x : ℕ) → x ≤ n + 1 → g.T.Tally.stride * (x + (n + 1)) ≤ length c.loop-k.rows =
     λ x le. let k : x + (n + 1) ≤ 3 * (n + 1) = omega arith in omega (arith, mul-le-mul_left g.T.Tally.stride k, c.requires.room, c.loop-k.auto.rows, c.first-row.auto.rows) in

@@ -7,7 +7,7 @@ use Rattle.search.specs.Usable.{Usable}
 use Rattle.search.proofs.Picking.{skips, takes, widens, fits_of, smaller_fits}
 use Rattle.search.proofs.Stretch.{lost_ok, lost_err, lost_little}
 use Rattle.search.proofs.rows.best_start.Goals as goal
-use Rattle.search.proofs.rows.best_start.Goals.{in-Some+in-ok-lost, in-default}
+use Rattle.search.proofs.rows.best_start.Goals.{in-Some+in_ok-lost, in-default}
 
 pub load-requires : goal.load-requires
 load-requires g c =
@@ -29,8 +29,8 @@ add-requires g c =
       omega (arith, c.requires.size),
     )
 
-pub returns-in-err-lost : goal.returns-in-err-lost
-returns-in-err-lost g c =
+pub returns-in_err-lost : goal.returns-in_err-lost
+returns-in_err-lost g c =
     let table : Table = g.L.Loss.table c.args.loss.now in
     let lt : c.loop-start.start < c.args.end = omega (arith, c.starts-before-range.ensures.within.1, c.loop-start-test.true) in
     absurd (lost_err table c.loop-start.start c.args.end c.in-err-lost.field-0.0 c.requires.usable lt (sym c.in-err-lost.was ∙ c.stretch.ensures))
@@ -55,7 +55,7 @@ loop-start-preserved g c =
     let ok : can a = (c.starts-before-range.ensures.exact a).0 (c.loop-start.auto.start, c.loop-start-test.true) in
     let Good : Option (V × ℕ) → Type 0 = λ o. Picked s can row (a + 1) t o × IfSome o (λ p. m.fits t p.0) in
     elim c.match-load.branch [
-      | in-Some+in-ok-lost w ↦ (
+      | in-Some+in_ok-lost w ↦ (
           let u : V = w.in-Some.before in
           let at : Some u ≡ row a = w.in-Some.ensures in
           let l : ℕ = w.in-ok-lost.lost in

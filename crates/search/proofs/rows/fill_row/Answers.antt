@@ -15,8 +15,8 @@ put-requires g c =
       subst (λ x. g.T.Tally.fits 512 x) (sym c.nothing.ensures) (g.met.T.Tally.wider 0 512 g.T.Tally.zero (omega arith) g.met.T.Tally.least),
     )
 
-pub best-start-requires : goal.best-start-requires
-best-start-requires g c =
+pub best_start-requires : goal.best_start-requires
+best_start-requires g c =
     let m = g.T.Tally in
     let le : 0 + c.loop-end.end ≤ c.args.n + 1 = omega arith in
     record {
@@ -27,8 +27,8 @@ best-start-requires g c =
       small = λ a lt. subst (λ k. IfSome (m.held c.loop-end.rows k) (λ v. m.fits a v)) (sym (zero-add a)) (c.loop-end.invariant.1 a lt);
     }
 
-pub write-entry-requires : goal.write-entry-requires
-write-entry-requires g c =
+pub write_entry-requires : goal.write_entry-requires
+write_entry-requires g c =
     let m = g.T.Tally in
     let le : c.loop-end.end + 1 ≤ c.args.n + 1 = omega arith in
     record {

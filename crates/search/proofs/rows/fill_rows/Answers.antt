@@ -12,13 +12,13 @@ use Rattle.search.proofs.rows.fill_rows.Goals as goal
 next_place : (s w : ℕ) → (s + 1) * w ≡ s * w + w
 next_place s w = add-mul s 1 w ∙ ap (λ x. s * w + x) (one-mul w)
 
-pub first-row-requires : goal.first-row-requires
-first-row-requires g c =
+pub first_row-requires : goal.first_row-requires
+first_row-requires g c =
     let le : c.args.n + 1 ≤ (c.args.n + 1) + (c.args.n + 1) = omega arith in
     omega (arith, mul-le-mul_left g.T.Tally.stride le, c.requires.room)
 
-pub next-row-requires : goal.next-row-requires
-next-row-requires g c =
+pub next_row-requires : goal.next_row-requires
+next_row-requires g c =
     let n : ℕ = c.args.n in
     let s : ℕ = c.loop-s.s in
     let src : ℕ = c.loop-s.src in

@@ -5,8 +5,8 @@ use Rattle.constraints.specs.Ranges.{permitted}
 use Rattle.search.proofs.Filling.{entry_more, fits_wider}
 use Rattle.search.proofs.rows.next_row.Goals as goal
 
-pub best-start-requires : goal.best-start-requires
-best-start-requires g c =
+pub best_start-requires : goal.best_start-requires
+best_start-requires g c =
     let m = g.T.Tally in
     let le : c.args.src + c.loop-end.end ≤ c.args.src + (c.args.n + 1) = omega arith in
     record {
@@ -20,8 +20,8 @@ best-start-requires g c =
           subst (λ o. IfSome o (λ v. m.fits a v)) (sym (c.loop-end.invariant.2 (c.args.src + a) out)) (c.requires.small a within));
     }
 
-pub write-entry-requires : goal.write-entry-requires
-write-entry-requires g c =
+pub write_entry-requires : goal.write_entry-requires
+write_entry-requires g c =
     let m = g.T.Tally in
     let le : (c.args.dst + c.loop-end.end) + 1 ≤ c.args.dst + (c.args.n + 1) = omega arith in
     record {
