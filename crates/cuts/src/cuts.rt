@@ -39,9 +39,9 @@ pub fn cut_by_penalty<L: Loss>(
     boundaries: &mut List<u16>,
 ) -> Result<u64, Fault>
     ensures cut { Cut
-        (penalty_refusal (table loss.now) n penalty (length numbers.old) (length trace.old) (length (places boundaries.old)))
-        (winner (by_penalty penalty) (table loss.now).loss (marks_of marks.now) shortest n)
-        (total_of (by_penalty penalty) (table loss.now).loss n)
+        (penalty_refusal (L.table loss.now) n penalty (length numbers.old) (length trace.old) (length (places boundaries.old)))
+        (winner (by_penalty penalty) (L.table loss.now).loss (marks_of marks.now) shortest n)
+        (total_of (by_penalty penalty) (L.table loss.now).loss n)
         result boundaries.old boundaries.new numbers.old numbers.new trace.old trace.new }
     ensures lender { boundaries.new.items.ghost_name ≡ boundaries.old.items.ghost_name }
 {
@@ -84,9 +84,9 @@ pub fn cut_by_count<L: Loss>(
     boundaries: &mut List<u16>,
 ) -> Result<u64, Fault>
     ensures cut { Cut
-        (count_refusal (table loss.now) n count (length numbers.old) (length trace.old) (length (places boundaries.old)))
-        (winner (by_count count) (table loss.now).loss (marks_of marks.now) shortest n)
-        (total_of (by_count count) (table loss.now).loss n)
+        (count_refusal (L.table loss.now) n count (length numbers.old) (length trace.old) (length (places boundaries.old)))
+        (winner (by_count count) (L.table loss.now).loss (marks_of marks.now) shortest n)
+        (total_of (by_count count) (L.table loss.now).loss n)
         result boundaries.old boundaries.new numbers.old numbers.new trace.old trace.new }
     ensures lender { boundaries.new.items.ghost_name ≡ boundaries.old.items.ghost_name }
 {

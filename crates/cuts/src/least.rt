@@ -22,9 +22,9 @@ pub fn least_by_count<L: Loss>(
 ) -> Result<(), Fault>
     requires size { (0 < n) × (n ≤ 512) }
     requires room { 3 * (n + 1) ≤ length numbers.old }
-    requires usable { Usable (table loss.now) n }
+    requires usable { Usable (L.table loss.now) n }
     ensures { MatchResult result
-        (λ _. ((k : ℕ) → k < n → loss_held numbers.new (2 * (n + 1) + k) ≡ option_map (total (by_count k) (table loss.now).loss n) (winner (by_count k) (table loss.now).loss (marks_of marks.now) shortest n)))
+        (λ _. ((k : ℕ) → k < n → loss_held numbers.new (2 * (n + 1) + k) ≡ option_map (total (by_count k) (L.table loss.now).loss n) (winner (by_count k) (L.table loss.now).loss (marks_of marks.now) shortest n)))
         (λ e. ⊥) }
 {
     let constraints = Constraints {

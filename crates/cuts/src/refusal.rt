@@ -22,7 +22,7 @@ pub(crate) struct Room {
 
 // Has the line between 1 and 512 readings, and does the loss stand for all of them?
 pub fn check_line<L: Loss>(loss: &L, n: u16) -> Result<(), Fault>
-    ensures { RefusedFor (line_refusal (table loss.now) n) result }
+    ensures { RefusedFor (line_refusal (L.table loss.now) n) result }
 {
     if loss.ceiling() > HEAVIEST {
         return Err(Fault::TooHeavy);
@@ -62,7 +62,7 @@ pub(crate) fn check_by_penalty<L: Loss>(
     penalty: u64,
     room: Room,
 ) -> Result<(), Fault>
-    ensures { RefusedFor (penalty_refusal (table loss.now) n penalty room.numbers room.trace room.places) result }
+    ensures { RefusedFor (penalty_refusal (L.table loss.now) n penalty room.numbers room.trace room.places) result }
 {
     if penalty > LARGEST_PENALTY {
         return Err(Fault::BadPenalty);
@@ -72,7 +72,7 @@ pub(crate) fn check_by_penalty<L: Loss>(
 }
 
 pub(crate) fn check_by_count<L: Loss>(loss: &L, n: u16, count: u16, room: Room) -> Result<(), Fault>
-    ensures { RefusedFor (count_refusal (table loss.now) n count room.numbers room.trace room.places) result }
+    ensures { RefusedFor (count_refusal (L.table loss.now) n count room.numbers room.trace room.places) result }
 {
     if count >= n {
         return Err(Fault::BadCount);

@@ -31,9 +31,9 @@ fn best_by<L: Loss>(
     boundaries: &mut List<u16>,
 ) -> Result<u64, Fault>
     ensures cut { Cut-made
-        (cut_refusal (sought criterion) (table loss.now) line.now (length numbers.old) (length trace.old) (length (places boundaries.old)))
-        (cut_winner (sought criterion) (table loss.now) (marks_of marks.now) line.now)
-        (cut_total (sought criterion) (table loss.now) line.now)
+        (cut_refusal (sought criterion) (L.table loss.now) line.now (length numbers.old) (length trace.old) (length (places boundaries.old)))
+        (cut_winner (sought criterion) (L.table loss.now) (marks_of marks.now) line.now)
+        (cut_total (sought criterion) (L.table loss.now) line.now)
         result boundaries.old boundaries.new numbers.old numbers.new trace.old trace.new }
     ensures lender { boundaries.new.items.ghost_name ≡ boundaries.old.items.ghost_name }
 {
@@ -54,7 +54,7 @@ fn best_by<L: Loss>(
 impl Marking {
     // A fresh line over the loss: all its readings, no marks, and stretches of one reading or more.
     pub fn open<L: Loss>(loss: &L, marks: &mut MarkTable) -> Result<Marking, Fault>
-        ensures answer { result ≡ unless (open_refusal (table loss.now)) (fresh (table loss.now)) }
+        ensures answer { result ≡ unless (open_refusal (L.table loss.now)) (fresh (L.table loss.now)) }
         ensures marks { MatchResult result (λ _. marks_of marks.new ≡ []) (λ _. marks.new ≡ marks.old) }
     {
         let n = loss.length();
@@ -116,8 +116,8 @@ impl Marking {
         steps: &mut List<Step>,
     ) -> Result<(), Fault>
         ensures path { PathWritten
-            (path_refusal (table loss.now) self.old.n (length numbers.old) (length (places steps.old)))
-            (table loss.now).loss (marks_of marks.now) self.old.shortest self.old.n
+            (path_refusal (L.table loss.now) self.old.n (length numbers.old) (length (places steps.old)))
+            (L.table loss.now).loss (marks_of marks.now) self.old.shortest self.old.n
             result steps.old steps.new numbers.old numbers.new }
         ensures same { self.new ≡ self.old }
         ensures lender { steps.new.items.ghost_name ≡ steps.old.items.ghost_name }
@@ -135,12 +135,12 @@ impl Marking {
         trace: &mut [u16],
         boundaries: &mut List<u16>,
     ) -> Result<Cut, (Marking, Fault)>
-        ensures answer { result ≡ cut_line self (cut_outcome (sought criterion) (table loss.now) (marks_of marks.now) self (length numbers.old) (length trace.old) (length (places boundaries.old))) }
+        ensures answer { result ≡ cut_line self (cut_outcome (sought criterion) (L.table loss.now) (marks_of marks.now) self (length numbers.old) (length trace.old) (length (places boundaries.old))) }
         ensures cut { Cut-made
-            (cut_refusal (sought criterion) (table loss.now) self (length numbers.old) (length trace.old) (length (places boundaries.old)))
-            (cut_winner (sought criterion) (table loss.now) (marks_of marks.now) self)
-            (cut_total (sought criterion) (table loss.now) self)
-            (cut_outcome (sought criterion) (table loss.now) (marks_of marks.now) self (length numbers.old) (length trace.old) (length (places boundaries.old)))
+            (cut_refusal (sought criterion) (L.table loss.now) self (length numbers.old) (length trace.old) (length (places boundaries.old)))
+            (cut_winner (sought criterion) (L.table loss.now) (marks_of marks.now) self)
+            (cut_total (sought criterion) (L.table loss.now) self)
+            (cut_outcome (sought criterion) (L.table loss.now) (marks_of marks.now) self (length numbers.old) (length trace.old) (length (places boundaries.old)))
             boundaries.old boundaries.new numbers.old numbers.new trace.old trace.new }
         ensures lender { boundaries.new.items.ghost_name ≡ boundaries.old.items.ghost_name }
     {

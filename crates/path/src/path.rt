@@ -15,7 +15,7 @@ use marks::table::MarkTable;
 
 // What refuses a path before the search is begun.
 fn check_path<L: Loss>(loss: &L, n: u16, numbers: usize, room: usize) -> Result<(), Fault>
-    ensures { RefusedFor (path_refusal (table loss.now) n numbers room) result }
+    ensures { RefusedFor (path_refusal (L.table loss.now) n numbers room) result }
 {
     check_line(loss, n)?;
     if numbers < 3 * (n as usize + 1) || room < n as usize {
@@ -34,8 +34,8 @@ pub fn path<L: Loss>(
     list: &mut List<Step>,
 ) -> Result<(), Fault>
     ensures path { PathWritten
-        (path_refusal (table loss.now) n (length numbers.old) (length (places list.old)))
-        (table loss.now).loss (marks_of marks.now) shortest n
+        (path_refusal (L.table loss.now) n (length numbers.old) (length (places list.old)))
+        (L.table loss.now).loss (marks_of marks.now) shortest n
         result list.old list.new numbers.old numbers.new }
     ensures lender { list.new.items.ghost_name ≡ list.old.items.ghost_name }
 {

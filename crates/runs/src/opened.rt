@@ -24,10 +24,10 @@ pub fn open_line<L: Loss>(
     loss: &L,
     marks: &mut MarkTable,
 ) -> Result<u16, Fault>
-    ensures answer { result ≡ unless (opening_refusal line.old (table loss.now)) (table loss.now).length }
+    ensures answer { result ≡ unless (opening_refusal line.old (L.table loss.now)) (L.table loss.now).length }
     ensures opened { MatchResult result
-        (λ _. (line.new ≡ Some (marking (fresh (table loss.now))))
-        × ((bs : Lent-list ℕ) (ss : Lent-list Path-step) → BeginsLawful (table loss.now) (opened_state line.new marks.new bs ss)))
+        (λ _. (line.new ≡ Some (marking (fresh (L.table loss.now))))
+        × ((bs : Lent-list ℕ) (ss : Lent-list Path-step) → BeginsLawful (L.table loss.now) (opened_state line.new marks.new bs ss)))
         (λ _. (line.new ≡ line.old) × (marks.new ≡ marks.old)) }
 {
     if line.is_some() {
@@ -50,10 +50,10 @@ pub fn call_line<L: Loss>(
     numbers: &mut [u64],
     trace: &mut [u16],
 ) -> Reply
-    ensures performed { OpenedPerformed (table loss.now) (room boundaries.old steps.old numbers.old trace.old) call result
+    ensures performed { OpenedPerformed (L.table loss.now) (room boundaries.old steps.old numbers.old trace.old) call result
         (opened_state line.old marks.old boundaries.old steps.old)
         (opened_state line.new marks.new boundaries.new steps.new) }
-    ensures keeps { OpenedKeeps (table loss.now) (room boundaries.old steps.old numbers.old trace.old) (event call result)
+    ensures keeps { OpenedKeeps (L.table loss.now) (room boundaries.old steps.old numbers.old trace.old) (event call result)
         (opened_state line.old marks.old boundaries.old steps.old)
         (opened_state line.new marks.new boundaries.new steps.new) }
     ensures shut { line.old ≡ None → (marks.new ≡ marks.old) × (boundaries.new ≡ boundaries.old) × (steps.new ≡ steps.old) }

@@ -44,8 +44,8 @@ fn take_path<L: Loss>(
     numbers: &mut [u64],
 ) -> Result<(), Fault>
     ensures path { PathWritten
-        (path_refusal (table loss.now) line.old.n (min lent.numbers (length numbers.old)) (length (places steps.old)))
-        (table loss.now).loss (marks_of marks.now) line.old.shortest line.old.n
+        (path_refusal (L.table loss.now) line.old.n (min lent.numbers (length numbers.old)) (length (places steps.old)))
+        (L.table loss.now).loss (marks_of marks.now) line.old.shortest line.old.n
         result steps.old steps.new numbers.old numbers.new }
     ensures same { line.new ≡ line.old }
     ensures lender { steps.new.items.ghost_name ≡ steps.old.items.ghost_name }
@@ -65,12 +65,12 @@ fn take_cut<L: Loss>(
     numbers: &mut [u64],
     trace: &mut [u16],
 ) -> Result<Cut, (Marking, Fault)>
-    ensures answer { result ≡ cut_line line (cut_outcome (sought criterion) (table loss.now) (marks_of marks.now) line (min lent.numbers (length numbers.old)) (min lent.trace (length trace.old)) (length (places boundaries.old))) }
+    ensures answer { result ≡ cut_line line (cut_outcome (sought criterion) (L.table loss.now) (marks_of marks.now) line (min lent.numbers (length numbers.old)) (min lent.trace (length trace.old)) (length (places boundaries.old))) }
     ensures cut { Cut-made
-        (cut_refusal (sought criterion) (table loss.now) line (min lent.numbers (length numbers.old)) (min lent.trace (length trace.old)) (length (places boundaries.old)))
-        (cut_winner (sought criterion) (table loss.now) (marks_of marks.now) line)
-        (cut_total (sought criterion) (table loss.now) line)
-        (cut_outcome (sought criterion) (table loss.now) (marks_of marks.now) line (min lent.numbers (length numbers.old)) (min lent.trace (length trace.old)) (length (places boundaries.old)))
+        (cut_refusal (sought criterion) (L.table loss.now) line (min lent.numbers (length numbers.old)) (min lent.trace (length trace.old)) (length (places boundaries.old)))
+        (cut_winner (sought criterion) (L.table loss.now) (marks_of marks.now) line)
+        (cut_total (sought criterion) (L.table loss.now) line)
+        (cut_outcome (sought criterion) (L.table loss.now) (marks_of marks.now) line (min lent.numbers (length numbers.old)) (min lent.trace (length trace.old)) (length (places boundaries.old)))
         boundaries.old boundaries.new numbers.old numbers.new trace.old trace.new }
     ensures lender { boundaries.new.items.ghost_name ≡ boundaries.old.items.ghost_name }
 {
@@ -97,7 +97,7 @@ fn of_marking<L: Loss>(
     numbers: &mut [u64],
     trace: &mut [u16],
 ) -> (Line, Reply)
-    ensures performed { Performed (table loss.now) (room boundaries.old steps.old numbers.old trace.old) call result.1
+    ensures performed { Performed (L.table loss.now) (room boundaries.old steps.old numbers.old trace.old) call result.1
         (state (marking line) marks.old boundaries.old steps.old)
         (state result.0 marks.new boundaries.new steps.new) }
     ensures boundaries { PastKept boundaries.old boundaries.new }
@@ -147,7 +147,7 @@ fn carry_out<L: Loss>(
     numbers: &mut [u64],
     trace: &mut [u16],
 ) -> (Line, Reply)
-    ensures performed { Performed (table loss.now) (room boundaries.old steps.old numbers.old trace.old) call result.1
+    ensures performed { Performed (L.table loss.now) (room boundaries.old steps.old numbers.old trace.old) call result.1
         (state line marks.old boundaries.old steps.old)
         (state result.0 marks.new boundaries.new steps.new) }
     ensures boundaries { PastKept boundaries.old boundaries.new }
@@ -179,10 +179,10 @@ pub fn perform<L: Loss>(
     numbers: &mut [u64],
     trace: &mut [u16],
 ) -> (Line, Reply)
-    ensures performed { Performed (table loss.now) (room boundaries.old steps.old numbers.old trace.old) call result.1
+    ensures performed { Performed (L.table loss.now) (room boundaries.old steps.old numbers.old trace.old) call result.1
         (state line marks.old boundaries.old steps.old)
         (state result.0 marks.new boundaries.new steps.new) }
-    ensures keeps { Keeps (table loss.now) (room boundaries.old steps.old numbers.old trace.old) (event call result.1)
+    ensures keeps { Keeps (L.table loss.now) (room boundaries.old steps.old numbers.old trace.old) (event call result.1)
         (state line marks.old boundaries.old steps.old)
         (state result.0 marks.new boundaries.new steps.new) }
     ensures boundaries { PastKept boundaries.old boundaries.new }

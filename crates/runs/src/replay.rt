@@ -32,7 +32,7 @@ pub trait Watch {
         steps: &mut List<Step>,
         lent: Lent,
     )
-        requires { BestAfter (table loss.now) (room_of lent.numbers lent.trace boundaries.old steps.old) (history calls.now (entries replies.old)) (view line.now boundaries.old steps.old) }
+        requires { BestAfter (L.table loss.now) (room_of lent.numbers lent.trace boundaries.old steps.old) (history calls.now (entries replies.old)) (view line.now boundaries.old steps.old) }
         ensures replies { replies.new ≡ replies.old }
         ensures boundaries { boundaries.new ≡ boundaries.old }
         ensures steps { steps.new ≡ steps.old };
@@ -45,7 +45,7 @@ fn begin<L: Loss>(
     replies: &mut List<Reply>,
     marks: &mut MarkTable,
 ) -> Result<Marking, Fault>
-    ensures answer { result ≡ unless (run_refusal (table loss.now) calls (length (places replies.old))) (fresh (table loss.now)) }
+    ensures answer { result ≡ unless (run_refusal (L.table loss.now) calls (length (places replies.old))) (fresh (L.table loss.now)) }
     ensures marks { MatchResult result (λ _. marks_of marks.new ≡ []) (λ _. marks.new ≡ marks.old) }
     ensures replies { MatchResult result (λ _. (entries replies.new ≡ []) × (places replies.new ≡ places replies.old)) (λ _. replies.new ≡ replies.old) }
     ensures slice { SameSlice replies.old replies.new }
@@ -72,12 +72,12 @@ pub fn replay_watched<L: Loss, W: Watch>(
     numbers: &mut [u64],
     trace: &mut [u16],
 ) -> Result<Line, Fault>
-    ensures refusal { RefusedFor (run_refusal (table loss.now) (length calls.now) (length (places replies.old))) result }
+    ensures refusal { RefusedFor (run_refusal (L.table loss.now) (length calls.now) (length (places replies.old))) result }
     ensures law { MatchResult result
-        (λ line. BestAfter (table loss.now) (room boundaries.old steps.old numbers.old trace.old) (history calls.now (entries replies.new)) (view line boundaries.new steps.new))
+        (λ line. BestAfter (L.table loss.now) (room boundaries.old steps.old numbers.old trace.old) (history calls.now (entries replies.new)) (view line boundaries.new steps.new))
         (λ _. (marks.new ≡ marks.old) × (boundaries.new ≡ boundaries.old) × (steps.new ≡ steps.old) × (replies.new ≡ replies.old) × (numbers.new ≡ numbers.old) × (trace.new ≡ trace.old)) }
     ensures kept { MatchResult result
-        (λ line. Kept (table loss.now) (room boundaries.old steps.old numbers.old trace.old) (history calls.now (entries replies.new)) (state line marks.new boundaries.new steps.new))
+        (λ line. Kept (L.table loss.now) (room boundaries.old steps.old numbers.old trace.old) (history calls.now (entries replies.new)) (state line marks.new boundaries.new steps.new))
         (λ _. Unit {0}) }
     ensures replied { OnOk result (length (entries replies.new) ≡ length calls.now) }
     ensures slices { PastKept replies.old replies.new × SameSlice boundaries.old boundaries.new × SameSlice steps.old steps.new }

@@ -44,12 +44,12 @@ pub fn replay<L: Loss>(
     numbers: &mut [u64],
     trace: &mut [u16],
 ) -> Result<Line, Fault>
-    ensures refusal { RefusedFor (run_refusal (table loss.now) (length calls.now) (length (places replies.old))) result }
+    ensures refusal { RefusedFor (run_refusal (L.table loss.now) (length calls.now) (length (places replies.old))) result }
     ensures law { MatchResult result
-        (λ line. BestAfter (table loss.now) (room boundaries.old steps.old numbers.old trace.old) (history calls.now (entries replies.new)) (view line boundaries.new steps.new))
+        (λ line. BestAfter (L.table loss.now) (room boundaries.old steps.old numbers.old trace.old) (history calls.now (entries replies.new)) (view line boundaries.new steps.new))
         (λ _. (marks.new ≡ marks.old) × (boundaries.new ≡ boundaries.old) × (steps.new ≡ steps.old) × (replies.new ≡ replies.old) × (numbers.new ≡ numbers.old) × (trace.new ≡ trace.old)) }
     ensures kept { MatchResult result
-        (λ line. Kept (table loss.now) (room boundaries.old steps.old numbers.old trace.old) (history calls.now (entries replies.new)) (state line marks.new boundaries.new steps.new))
+        (λ line. Kept (L.table loss.now) (room boundaries.old steps.old numbers.old trace.old) (history calls.now (entries replies.new)) (state line marks.new boundaries.new steps.new))
         (λ _. Unit {0}) }
     ensures replied { OnOk result (length (entries replies.new) ≡ length calls.now) }
     ensures slices { PastKept replies.old replies.new × SameSlice boundaries.old boundaries.new × SameSlice steps.old steps.new }

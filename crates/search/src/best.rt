@@ -23,11 +23,11 @@ pub fn best_of_all<L: Loss, T: Tally>(
     trace: &mut [u16],
 ) -> Result<Option<(T::Value, usize)>, Fault>
     requires size { (0 < n) × (n ≤ 512) }
-    requires room { stride * (n + 1) ≤ length rows.old }
+    requires room { T.stride * (n + 1) ≤ length rows.old }
     requires trace { n < length trace.old }
-    requires usable { Usable (table loss.now) n }
+    requires usable { Usable (L.table loss.now) n }
     ensures { MatchResult result
-        (λ o. Found (tallying zero added below tally.now (table loss.now).loss) (any_number (permitted constraints.now)) (fits n) tt n (n + 1) trace.new o)
+        (λ o. Found (tallying T.zero T.added T.below tally.now (L.table loss.now).loss) (any_number (permitted constraints.now)) (T.fits n) tt n (n + 1) trace.new o)
         (λ e. ⊥) }
 {
     fill_row(loss, tally, constraints, n, rows, trace)?;
@@ -52,11 +52,11 @@ pub fn best_of_count<L: Loss, T: Tally>(
 ) -> Result<Option<(T::Value, usize)>, Fault>
     requires size { (0 < n) × (n ≤ 512) }
     requires count { (0 < stretches) × (stretches ≤ 512) }
-    requires room { stride * ((n + 1) + (n + 1)) ≤ length rows.old }
+    requires room { T.stride * ((n + 1) + (n + 1)) ≤ length rows.old }
     requires trace { stretches * (n + 1) ≤ length trace.old }
-    requires usable { Usable (table loss.now) n }
+    requires usable { Usable (L.table loss.now) n }
     ensures { MatchResult result
-        (λ o. Found (tallying zero added below tally.now (table loss.now).loss) (exactly (permitted constraints.now)) (fits n) stretches n (stretches * (n + 1)) trace.new o)
+        (λ o. Found (tallying T.zero T.added T.below tally.now (L.table loss.now).loss) (exactly (permitted constraints.now)) (T.fits n) stretches n (stretches * (n + 1)) trace.new o)
         (λ e. ⊥) }
 {
     let base = fill_rows(loss, tally, constraints, n, stretches, rows, trace)?;

@@ -23,10 +23,10 @@ pub fn least_tallies<L: Loss, T: Tally>(
     rows: &mut [u64],
 ) -> Result<(), Fault>
     requires size { n ≤ 512 }
-    requires room { stride * (3 * (n + 1)) ≤ length rows.old }
-    requires usable { Usable (table loss.now) n }
+    requires room { T.stride * (3 * (n + 1)) ≤ length rows.old }
+    requires usable { Usable (L.table loss.now) n }
     ensures { MatchResult result
-        (λ _. ((k : ℕ) → k < n → Least (tallying zero added below tally.now (table loss.now).loss) (exactly (permitted constraints.now)) (k + 1) n (held rows.new (2 * (n + 1) + k))))
+        (λ _. ((k : ℕ) → k < n → Least (tallying T.zero T.added T.below tally.now (L.table loss.now).loss) (exactly (permitted constraints.now)) (k + 1) n (T.held rows.new (2 * (n + 1) + k))))
         (λ e. ⊥) }
 {
     first_row(tally, n, rows);
@@ -53,9 +53,9 @@ pub fn least_losses<L: Loss>(
 ) -> Result<(), Fault>
     requires size { n ≤ 512 }
     requires room { 3 * (n + 1) ≤ length numbers.old }
-    requires usable { Usable (table loss.now) n }
+    requires usable { Usable (L.table loss.now) n }
     ensures { MatchResult result
-        (λ _. ((k : ℕ) → k < n → Least (tallying 0 loss_added nat_lt loss.now (table loss.now).loss) (exactly (permitted constraints.now)) (k + 1) n (loss_held numbers.new (2 * (n + 1) + k))))
+        (λ _. ((k : ℕ) → k < n → Least (tallying 0 loss_added nat_lt loss.now (L.table loss.now).loss) (exactly (permitted constraints.now)) (k + 1) n (loss_held numbers.new (2 * (n + 1) + k))))
         (λ e. ⊥) }
 {
     least_tallies(loss, &ByLoss, constraints, n, numbers)

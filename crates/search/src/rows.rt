@@ -18,7 +18,7 @@ fn pick<T: Tally>(
     v: T::Value,
     start: u16,
 ) -> Option<(T::Value, u16)>
-    ensures { result ≡ smaller below best v start }
+    ensures { result ≡ smaller T.below best v start }
 {
     match best {
         Some((w, earlier)) => {
@@ -43,12 +43,12 @@ pub fn best_start<L: Loss, T: Tally>(
 ) -> Result<Option<(T::Value, u16)>, Fault>
     requires size { end ≤ 512 }
     requires near { base ≤ 1000000 }
-    requires room { stride * (base + end) ≤ length rows.now }
-    requires usable { Usable (table loss.now) end }
-    requires small { (a : ℕ) → a < end → IfSome (held rows.now (base + a)) (λ v. fits a v) }
+    requires room { T.stride * (base + end) ≤ length rows.now }
+    requires usable { Usable (L.table loss.now) end }
+    requires small { (a : ℕ) → a < end → IfSome (T.held rows.now (base + a)) (λ v. T.fits a v) }
     ensures { MatchResult result
-        (λ o. Picked (tallying zero added below tally.now (table loss.now).loss) (λ a. permitted constraints.now a end) (λ a. held rows.now (base + a)) end end o
-        × IfSome o (λ p. fits end p.0))
+        (λ o. Picked (tallying T.zero T.added T.below tally.now (L.table loss.now).loss) (λ a. permitted constraints.now a end) (λ a. T.held rows.now (base + a)) end end o
+        × IfSome o (λ p. T.fits end p.0))
         (λ e. ⊥) }
 {
     let range = constraints.starts_before(end);
@@ -80,10 +80,10 @@ fn write_entry<T: Tally>(
     j: usize,
     found: Option<(T::Value, u16)>,
 )
-    requires room { stride * (i + 1) ≤ length rows.old }
-    requires small { IfSome found (λ p. fits 512 p.0) }
-    ensures here { held rows.new i ≡ value_of found }
-    ensures others { (k : ℕ) → (k ≢ i) → held rows.new k ≡ held rows.old k }
+    requires room { T.stride * (i + 1) ≤ length rows.old }
+    requires small { IfSome found (λ p. T.fits 512 p.0) }
+    ensures here { T.held rows.new i ≡ value_of found }
+    ensures others { (k : ℕ) → (k ≢ i) → T.held rows.new k ≡ T.held rows.old k }
     ensures traced { trace.new ≡ slice_set trace.old j (start_of found) }
 {
     match found {
@@ -108,12 +108,12 @@ pub fn fill_row<L: Loss, T: Tally>(
     trace: &mut [u16],
 ) -> Result<(), Fault>
     requires size { n ≤ 512 }
-    requires room { stride * (n + 1) ≤ length rows.old }
+    requires room { T.stride * (n + 1) ≤ length rows.old }
     requires trace { n < length trace.old }
-    requires usable { Usable (table loss.now) n }
+    requires usable { Usable (L.table loss.now) n }
     ensures { MatchResult result
-        (λ _. Row (tallying zero added below tally.now (table loss.now).loss) (any_number (permitted constraints.now)) (λ _ t. slice_index trace.new t) tt (held rows.new) (n + 1)
-        × ((a : ℕ) → a < n + 1 → IfSome (held rows.new a) (λ v. fits a v)))
+        (λ _. Row (tallying T.zero T.added T.below tally.now (L.table loss.now).loss) (any_number (permitted constraints.now)) (λ _ t. slice_index trace.new t) tt (T.held rows.new) (n + 1)
+        × ((a : ℕ) → a < n + 1 → IfSome (T.held rows.new a) (λ v. T.fits a v)))
         (λ e. ⊥) }
 {
     tally.put(rows, 0, Some(tally.nothing()));
@@ -126,9 +126,9 @@ pub fn fill_row<L: Loss, T: Tally>(
 
 // The row of no stretch at all: an entry at 0, and no other.
 pub(crate) fn first_row<T: Tally>(tally: &T, n: u16, rows: &mut [u64])
-    requires { stride * (n + 1) ≤ length rows.old }
-    ensures first { held rows.new 0 ≡ Some zero }
-    ensures absent { (t : ℕ) → 0 < t → t < n + 1 → held rows.new t ≡ None }
+    requires { T.stride * (n + 1) ≤ length rows.old }
+    ensures first { T.held rows.new 0 ≡ Some T.zero }
+    ensures absent { (t : ℕ) → 0 < t → t < n + 1 → T.held rows.new t ≡ None }
 {
     tally.put(rows, 0, Some(tally.nothing()));
     for end in 0..n {
@@ -151,15 +151,15 @@ pub(crate) fn next_row<L: Loss, T: Tally>(
     requires size { n ≤ 512 }
     requires near { (src ≤ 1000) × (dst ≤ 1000) × (place ≤ 1000000) }
     requires apart { (src + n < dst) ⊎ (dst + n < src) }
-    requires source { stride * (src + (n + 1)) ≤ length rows.old }
-    requires target { stride * (dst + (n + 1)) ≤ length rows.old }
-    requires usable { Usable (table loss.now) n }
-    requires small { (a : ℕ) → a < n + 1 → IfSome (held rows.old (src + a)) (λ v. fits a v) }
+    requires source { T.stride * (src + (n + 1)) ≤ length rows.old }
+    requires target { T.stride * (dst + (n + 1)) ≤ length rows.old }
+    requires usable { Usable (L.table loss.now) n }
+    requires small { (a : ℕ) → a < n + 1 → IfSome (T.held rows.old (src + a)) (λ v. T.fits a v) }
     ensures { MatchResult result
-        (λ _. NextRow (tallying zero added below tally.now (table loss.now).loss) (permitted constraints.now) fits (λ a. held rows.old (src + a)) (λ a. held rows.new (dst + a))
+        (λ _. NextRow (tallying T.zero T.added T.below tally.now (L.table loss.now).loss) (permitted constraints.now) T.fits (λ a. T.held rows.old (src + a)) (λ a. T.held rows.new (dst + a))
         (λ t a. place + t < length trace.old → slice_index trace.new (place + t) ≡ a) (n + 1)
         × ((k : ℕ) → k < place → slice_index trace.new k ≡ slice_index trace.old k)
-        × ((k : ℕ) → (k < dst) ⊎ (dst + n < k) → held rows.new k ≡ held rows.old k))
+        × ((k : ℕ) → (k < dst) ⊎ (dst + n < k) → T.held rows.new k ≡ T.held rows.old k))
         (λ e. ⊥) }
 {
     for end in 0..n + 1 {
@@ -188,12 +188,12 @@ pub fn fill_rows<L: Loss, T: Tally>(
 ) -> Result<usize, Fault>
     requires size { n ≤ 512 }
     requires count { stretches ≤ 512 }
-    requires room { stride * ((n + 1) + (n + 1)) ≤ length rows.old }
+    requires room { T.stride * ((n + 1) + (n + 1)) ≤ length rows.old }
     requires trace { stretches * (n + 1) ≤ length trace.old }
-    requires usable { Usable (table loss.now) n }
+    requires usable { Usable (L.table loss.now) n }
     ensures { MatchResult result
-        (λ base. (base ≤ n + 1) × Row (tallying zero added below tally.now (table loss.now).loss) (exactly (permitted constraints.now)) (kept_start trace.new (n + 1)) stretches (λ a. held rows.new (base + a)) (n + 1)
-        × ((a : ℕ) → a < n + 1 → IfSome (held rows.new (base + a)) (λ v. fits a v)))
+        (λ base. (base ≤ n + 1) × Row (tallying T.zero T.added T.below tally.now (L.table loss.now).loss) (exactly (permitted constraints.now)) (kept_start trace.new (n + 1)) stretches (λ a. T.held rows.new (base + a)) (n + 1)
+        × ((a : ℕ) → a < n + 1 → IfSome (T.held rows.new (base + a)) (λ v. T.fits a v)))
         (λ e. ⊥) }
 {
     first_row(tally, n, rows);

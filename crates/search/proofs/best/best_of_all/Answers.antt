@@ -12,13 +12,13 @@ read_back-from-requires g c =
     let m = g.T.Tally in
     let s : Tallying g.row.T-Value.Denot = tallying m.zero m.added m.below c.args.tally.now (g.L.Loss.table c.args.loss.now).loss in
     let n : ℕ = c.args.n in
-    let trace : List ℕ = c.fill-row.new.trace in
+    let trace : List ℕ = c.fill_row.new.trace in
     let starts = leads s (any_number (permitted c.args.constraints.now)) g.met.T.Tally.order (λ a b x y. g.met.T.Tally.strict c.args.tally.now x y a ((g.L.Loss.table c.args.loss.now).loss a b))
     (m.fits n) tt n (λ ds. Traced (λ (x : Unit {0}). x) (λ _ x. get_or trace x 0) tt n ds) (λ ds. Traced (row_before 0) (start_at trace) 0 n ds) (λ ds _ h. one_row trace 0 n ds refl h)
-    (m.held c.fill-row.new.rows n) (c.in-ok-fill-row.ensures.0 n (omega arith)) c.in-Some.v c.in-Some.ensures in
+    (m.held c.fill_row.new.rows n) (c.in_ok-fill_row.ensures.0 n (omega arith)) c.in-Some.v c.in-Some.ensures in
     record {
       size = (c.requires.size.0, c.requires.size.1, omega arith);
-      room = omega (arith, c.requires.trace, c.fill-row.auto.trace);
+      room = omega (arith, c.requires.trace, c.fill_row.auto.trace);
       leads = starts;
     }
 
@@ -27,12 +27,12 @@ returns-in-Some g c =
     let m = g.T.Tally in
     let s : Tallying g.row.T-Value.Denot = tallying m.zero m.added m.below c.args.tally.now (g.L.Loss.table c.args.loss.now).loss in
     let n : ℕ = c.args.n in
-    let trace : List ℕ = c.fill-row.new.trace in
+    let trace : List ℕ = c.fill_row.new.trace in
     let z : 0 + n + 1 ≡ n + 1 = omega arith in
     found_some s (any_number (permitted c.args.constraints.now)) g.met.T.Tally.order (λ a b x y. g.met.T.Tally.strict c.args.tally.now x y a ((g.L.Loss.table c.args.loss.now).loss a b))
     (m.fits n) tt n (λ ds. Traced (λ (x : Unit {0}). x) (λ _ x. get_or trace x 0) tt n ds) (λ ds. Traced (row_before 0) (start_at trace) 0 n ds) (λ ds _ h. one_row trace 0 n ds refl h)
-    (m.held c.fill-row.new.rows n) (c.in-ok-fill-row.ensures.0 n (omega arith)) c.in-Some.v c.in-Some.ensures
-    (n + 1) c.read-back-from.new.trace c.read-back-from.result
-    (fits_of (m.fits n) (m.held c.fill-row.new.rows n) c.in-Some.v c.in-Some.ensures (c.in-ok-fill-row.ensures.1 n (omega arith)))
-    (omega (arith, c.read-back-from.ensures.place))
-    (λ ds f h. ap (λ (x : ℕ). part c.read-back-from.result x c.read-back-from.new.trace) (sym z) ∙ c.read-back-from.ensures.boundaries ds f h)
+    (m.held c.fill_row.new.rows n) (c.in_ok-fill_row.ensures.0 n (omega arith)) c.in-Some.v c.in-Some.ensures
+    (n + 1) c.read_back-from.new.trace c.read_back-from.result
+    (fits_of (m.fits n) (m.held c.fill_row.new.rows n) c.in-Some.v c.in-Some.ensures (c.in_ok-fill_row.ensures.1 n (omega arith)))
+    (omega (arith, c.read_back-from.ensures.place))
+    (λ ds f h. ap (λ (x : ℕ). part c.read_back-from.result x c.read_back-from.new.trace) (sym z) ∙ c.read_back-from.ensures.boundaries ds f h)

@@ -17,7 +17,7 @@ pub next_row-requires : goal.next_row-requires
 next_row-requires g c =
     let n : ℕ = c.args.n in
     let within : (x : ℕ) → x ≤ n + 1 → g.T.Tally.stride * (x + (n + 1)) ≤ length c.loop-k.rows =
-    λ x le. let k : x + (n + 1) ≤ 3 * (n + 1) = omega arith in omega (arith, mul-le-mul_left g.T.Tally.stride k, c.requires.room, c.loop-k.auto.rows, c.first-row.auto.rows) in
+    λ x le. let k : x + (n + 1) ≤ 3 * (n + 1) = omega arith in omega (arith, mul-le-mul_left g.T.Tally.stride k, c.requires.room, c.loop-k.auto.rows, c.first_row.auto.rows) in
     let sides = apart n c.loop-k.src c.loop-k.dst c.loop-k.invariant.0 in
     record {
       size = c.requires.size;
@@ -33,16 +33,16 @@ pub load-least-requires : goal.load-least-requires
 load-least-requires g c =
     let sides = apart c.args.n c.loop-k.src c.loop-k.dst c.loop-k.invariant.0 in
     let le : (c.loop-k.dst + c.args.n) + 1 ≤ 3 * (c.args.n + 1) = omega (arith, sides.1) in
-    omega (arith, mul-le-mul_left g.T.Tally.stride le, c.requires.room, c.loop-k.auto.rows, c.first-row.auto.rows, c.next-row.auto.rows)
+    omega (arith, mul-le-mul_left g.T.Tally.stride le, c.requires.room, c.loop-k.auto.rows, c.first_row.auto.rows, c.next_row.auto.rows)
 
 pub put-requires : goal.put-requires
 put-requires g c =
     let m = g.T.Tally in
     let n : ℕ = c.args.n in
     let le : 2 * (n + 1) + c.loop-k.k + 1 ≤ 3 * (n + 1) = omega (arith, c.loop-k-test.true) in (
-      omega (arith, mul-le-mul_left m.stride le, c.requires.room, c.loop-k.auto.rows, c.first-row.auto.rows, c.next-row.auto.rows),
+      omega (arith, mul-le-mul_left m.stride le, c.requires.room, c.loop-k.auto.rows, c.first_row.auto.rows, c.next_row.auto.rows),
       subst (λ (o : Option g.row.T-Value.Denot). IfSome o (λ x. m.fits 512 x)) (sym c.load-least.ensures)
-          (fits_some (m.fits n) (m.fits 512) (λ x. g.met.T.Tally.wider n 512 x c.requires.size) (m.held c.next-row.new.rows (c.loop-k.dst + n)) (c.in-ok-next-row.ensures.0.small n (omega arith))),
+          (fits_some (m.fits n) (m.fits 512) (λ x. g.met.T.Tally.wider n 512 x c.requires.size) (m.held c.next_row.new.rows (c.loop-k.dst + n)) (c.in_ok-next_row.ensures.0.small n (omega arith))),
     )
 
 pub loop-k-init : goal.loop-k-init
@@ -52,9 +52,9 @@ loop-k-init g c =
     let n : ℕ = c.args.n in
     let s : Tallying V = tallying m.zero m.added m.below c.args.tally.now (g.L.Loss.table c.args.loss.now).loss in
     let can : ℕ → ℕ → Type 0 = permitted c.args.constraints.now in
-    let row : ℕ → Option V = λ a. m.held c.first-row.new.rows (0 + a) in
-    let first : row 0 ≡ Some m.zero = c.first-row.ensures.first in
-    let rest : (t : ℕ) → 0 < t → t < n + 1 → row t ≡ None = λ t pos lt. ap (m.held c.first-row.new.rows) (zero-add t) ∙ c.first-row.ensures.absent t pos lt in (
+    let row : ℕ → Option V = λ a. m.held c.first_row.new.rows (0 + a) in
+    let first : row 0 ≡ Some m.zero = c.first_row.ensures.first in
+    let rest : (t : ℕ) → 0 < t → t < n + 1 → row t ≡ None = λ t pos lt. ap (m.held c.first_row.new.rows) (zero-add t) ∙ c.first_row.ensures.absent t pos lt in (
       inl (refl, refl),
       (λ t lt. forgotten s (exactly can) (Traced (λ (x : ℕ). x - 1) (λ _ _. 0) 0 t) 0 t (row t) (exactly_first s can (λ _ _. 0) row (n + 1) first rest t lt)),
       first_fits m.fits m.zero row (n + 1) g.met.T.Tally.least first rest,
@@ -74,9 +74,9 @@ loop-k-preserved g c =
     let sides = apart n src dst c.loop-k.invariant.0 in
     let order = g.met.T.Tally.order in
     let before : ℕ → Option V = λ a. m.held c.loop-k.rows (src + a) in
-    let after : ℕ → Option V = λ a. m.held c.next-row.new.rows (dst + a) in
+    let after : ℕ → Option V = λ a. m.held c.next_row.new.rows (dst + a) in
     let last : ℕ → Option V = m.held c.put.new.rows in
-    let done = c.in-ok-next-row.ensures in
+    let done = c.in_ok-next_row.ensures in
     let e : k ≡ k + 1 - 1 = omega arith in
     let rows : (t : ℕ) → t < n + 1 → Least s (exactly can) (k + 1 - 1) t (before t) = λ t lt. subst (λ (x : ℕ). Least s (exactly can) x t (before t)) e (c.loop-k.invariant.1 t lt) in
     let filled : (t : ℕ) → t < n + 1 → Least s (exactly can) (k + 1) t (after t) =

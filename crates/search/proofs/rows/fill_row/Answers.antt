@@ -33,7 +33,7 @@ write_entry-requires g c =
     let le : c.loop-end.end + 1 ≤ c.args.n + 1 = omega arith in
     record {
       room = omega (arith, mul-le-mul_left m.stride le, c.requires.room, c.loop-end.auto.rows);
-      small = fits_wider (m.fits c.loop-end.end) (m.fits 512) (λ x. g.met.T.Tally.wider c.loop-end.end 512 x (omega (arith, c.requires.size))) c.in-ok-found.found c.in-ok-found.ensures.1;
+      small = fits_wider (m.fits c.loop-end.end) (m.fits 512) (λ x. g.met.T.Tally.wider c.loop-end.end 512 x (omega (arith, c.requires.size))) c.in_ok-found.found c.in_ok-found.ensures.1;
     }
 
 pub loop-end-init : goal.loop-end-init
@@ -54,14 +54,14 @@ loop-end-preserved g c =
     let can : ℕ → ℕ → Type 0 = permitted c.args.constraints.now in
     let t : ℕ = c.loop-end.end in
     let row : ℕ → Option V = m.held c.loop-end.rows in
-    let row' : ℕ → Option V = m.held c.write-entry.new.rows in
-    let r : Option (V × ℕ) = c.in-ok-found.found in
+    let row' : ℕ → Option V = m.held c.write_entry.new.rows in
+    let r : Option (V × ℕ) = c.in_ok-found.found in
     let shift : (λ (a : ℕ). row (0 + a)) ≡ row = fun_ext (λ a. ap row (zero-add a)) in
-    let picked : Picked s (λ a. can a t) row t t r = subst (λ (x : ℕ → Option V). Picked s (λ a. can a t) x t t r) shift c.in-ok-found.ensures.0 in
+    let picked : Picked s (λ a. can a t) row t t r = subst (λ (x : ℕ → Option V). Picked s (λ a. can a t) x t t r) shift c.in_ok-found.ensures.0 in
     let grown = any_next s can g.met.T.Tally.order (weak s g.met.T.Tally.order (λ a b x y. g.met.T.Tally.strict c.args.tally.now x y a ((g.L.Loss.table c.args.loss.now).loss a b)))
-    t c.loop-end.trace row row' r (omega arith) (omega arith) c.loop-end.invariant.0 picked c.write-entry.ensures.here c.write-entry.ensures.others in (
-      subst (λ (l : List ℕ). Row s (any_number can) (λ _ x. get_or l x 0) tt row' (t + 1)) (sym c.write-entry.ensures.traced) grown,
-      fits_next m.fits t row row' r c.loop-end.invariant.1 c.in-ok-found.ensures.1 c.write-entry.ensures.here c.write-entry.ensures.others,
+    t c.loop-end.trace row row' r (omega arith) (omega arith) c.loop-end.invariant.0 picked c.write_entry.ensures.here c.write_entry.ensures.others in (
+      subst (λ (l : List ℕ). Row s (any_number can) (λ _ x. get_or l x 0) tt row' (t + 1)) (sym c.write_entry.ensures.traced) grown,
+      fits_next m.fits t row row' r c.loop-end.invariant.1 c.in_ok-found.ensures.1 c.write_entry.ensures.here c.write_entry.ensures.others,
     )
 
 pub returns : goal.returns

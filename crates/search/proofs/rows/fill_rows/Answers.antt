@@ -25,7 +25,7 @@ next_row-requires g c =
     let dst : ℕ = c.loop-s.dst in
     let big : s * (n + 1) ≤ 512 * 513 = (let few : s ≤ 512 = omega (arith, c.requires.count) in let short : n + 1 ≤ 513 = omega (arith, c.requires.size) in mul-le-mul few short) in
     let within : (x : ℕ) → x ≤ n + 1 → g.T.Tally.stride * (x + (n + 1)) ≤ length c.loop-s.rows =
-    λ x le. let k : x + (n + 1) ≤ (n + 1) + (n + 1) = omega arith in omega (arith, mul-le-mul_left g.T.Tally.stride k, c.requires.room, c.loop-s.auto.rows, c.first-row.auto.rows) in
+    λ x le. let k : x + (n + 1) ≤ (n + 1) + (n + 1) = omega arith in omega (arith, mul-le-mul_left g.T.Tally.stride k, c.requires.room, c.loop-s.auto.rows, c.first_row.auto.rows) in
     let sides = apart n src dst c.loop-s.invariant.0 in
     record {
       size = c.requires.size;
@@ -43,9 +43,9 @@ loop-s-init g c =
     let V : Type 0 = g.row.T-Value.Denot in
     let n : ℕ = c.args.n in
     let s : Tallying V = tallying m.zero m.added m.below c.args.tally.now (g.L.Loss.table c.args.loss.now).loss in
-    let row : ℕ → Option V = λ a. m.held c.first-row.new.rows (0 + a) in
-    let first : row 0 ≡ Some m.zero = c.first-row.ensures.first in
-    let rest : (t : ℕ) → 0 < t → t < n + 1 → row t ≡ None = λ t pos lt. ap (m.held c.first-row.new.rows) (zero-add t) ∙ c.first-row.ensures.absent t pos lt in (
+    let row : ℕ → Option V = λ a. m.held c.first_row.new.rows (0 + a) in
+    let first : row 0 ≡ Some m.zero = c.first_row.ensures.first in
+    let rest : (t : ℕ) → 0 < t → t < n + 1 → row t ≡ None = λ t pos lt. ap (m.held c.first_row.new.rows) (zero-add t) ∙ c.first_row.ensures.absent t pos lt in (
       inl (refl, refl),
       exactly_first s (permitted c.args.constraints.now) (kept_start c.args.trace.now (n + 1)) row (n + 1) first rest,
       first_fits m.fits m.zero row (n + 1) g.met.T.Tally.least first rest,
@@ -60,23 +60,23 @@ loop-s-preserved g c =
     let s : Tallying V = tallying m.zero m.added m.below c.args.tally.now (g.L.Loss.table c.args.loss.now).loss in
     let can : ℕ → ℕ → Type 0 = permitted c.args.constraints.now in
     let before : ℕ → Option V = λ a. m.held c.loop-s.rows (c.loop-s.src + a) in
-    let after : ℕ → Option V = λ a. m.held c.next-row.new.rows (c.loop-s.dst + a) in
+    let after : ℕ → Option V = λ a. m.held c.next_row.new.rows (c.loop-s.dst + a) in
     let start-for : ℕ → ℕ → ℕ = kept_start c.loop-s.trace (n + 1) in
-    let start-for' : ℕ → ℕ → ℕ = kept_start c.next-row.new.trace (n + 1) in
+    let start-for' : ℕ → ℕ → ℕ = kept_start c.next_row.new.trace (n + 1) in
     let e : j ≡ j + 1 - 1 = omega arith in
     let rows : Row s (exactly can) start-for (j + 1 - 1) before (n + 1) = subst (λ (x : ℕ). Row s (exactly can) start-for x before (n + 1)) e c.loop-s.invariant.1 in
     let order = g.met.T.Tally.order in
-    let done = c.in-ok-next-row.ensures in
+    let done = c.in_ok-next_row.ensures in
     let top : (j + 1) * (n + 1) ≤ c.args.stretches * (n + 1) = (let le : j + 1 ≤ c.args.stretches = omega arith in mul-le-mul_right (n + 1) le) in
     let earlier : (k x : ℕ) → k < j + 1 → x < n + 1 → start-for' k x ≡ start-for k x = λ k x lt le.
-    kept_start_same c.loop-s.trace c.next-row.new.trace (n + 1) k x (λ pos.
+    kept_start_same c.loop-s.trace c.next_row.new.trace (n + 1) k x (λ pos.
     (let above : k - 1 + 1 ≤ j = omega arith in
     done.1 ((k - 1) * (n + 1) + x) (omega (arith, mul-le-mul_right (n + 1) above, next_place (k - 1) (n + 1))))) in (
       swapped n c.loop-s.src c.loop-s.dst c.loop-s.invariant.0,
       exactly_next s can order (weak s order (λ a b x y. g.met.T.Tally.strict c.args.tally.now x y a ((g.L.Loss.table c.args.loss.now).loss a b)))
           m.fits (j + 1) (n + 1) start-for start-for' before after (omega arith) rows
-          (row_noted s can m.fits before after (λ t a. j * (n + 1) + t < length c.loop-s.trace → get_or c.next-row.new.trace (j * (n + 1) + t) 0 ≡ a) (λ t a. start-for' (j + 1) t ≡ a) (n + 1)
-          (λ t a lt told. kept_start_at c.next-row.new.trace (n + 1) j t ∙ told (omega (arith, top, next_place j (n + 1), c.requires.trace, c.loop-s.auto.trace))) done.0) earlier,
+          (row_noted s can m.fits before after (λ t a. j * (n + 1) + t < length c.loop-s.trace → get_or c.next_row.new.trace (j * (n + 1) + t) 0 ≡ a) (λ t a. start-for' (j + 1) t ≡ a) (n + 1)
+          (λ t a lt told. kept_start_at c.next_row.new.trace (n + 1) j t ∙ told (omega (arith, top, next_place j (n + 1), c.requires.trace, c.loop-s.auto.trace))) done.0) earlier,
       done.0.small,
     )
 

@@ -26,7 +26,7 @@ write_entry-requires g c =
     let le : (c.args.dst + c.loop-end.end) + 1 ≤ c.args.dst + (c.args.n + 1) = omega arith in
     record {
       room = omega (arith, mul-le-mul_left m.stride le, c.requires.target, c.loop-end.auto.rows);
-      small = fits_wider (m.fits c.loop-end.end) (m.fits 512) (λ x. g.met.T.Tally.wider c.loop-end.end 512 x (omega (arith, c.requires.size))) c.in-ok-found.found c.in-ok-found.ensures.1;
+      small = fits_wider (m.fits c.loop-end.end) (m.fits 512) (λ x. g.met.T.Tally.wider c.loop-end.end 512 x (omega (arith, c.requires.size))) c.in_ok-found.found c.in_ok-found.ensures.1;
     }
 
 pub loop-end-init : goal.loop-end-init
@@ -43,20 +43,20 @@ loop-end-preserved g c =
     let dst : ℕ = c.args.dst in
     let place : ℕ = c.args.place in
     let in-time : t < n + 1 = c.loop-end-test.true in
-    let r : Option (V × ℕ) = c.in-ok-found.found in
+    let r : Option (V × ℕ) = c.in_ok-found.found in
     let first : List ℕ = c.args.trace.now in
     let old : List ℕ = c.loop-end.trace in
-    let new : List ℕ = c.write-entry.new.trace in
-    let traced : new ≡ set old (place + t) (start_of r) = c.write-entry.ensures.traced in
+    let new : List ℕ = c.write_entry.new.trace in
+    let traced : new ≡ set old (place + t) (start_of r) = c.write_entry.ensures.traced in
     let other : (k : ℕ) → (k ≡ place + t → ⊥) → get_or new k 0 ≡ get_or old k 0 = λ k ne. ap (λ (l : List ℕ). get_or l k 0) traced ∙ get_or-set_other old (place + t) k (start_of r) 0 ne in (
       entry_more s (permitted c.args.constraints.now) m.fits (λ a. m.held c.args.rows.now (src + a)) (λ a. m.held c.loop-end.rows (src + a))
-          (λ a. m.held c.loop-end.rows (dst + a)) (λ a. m.held c.write-entry.new.rows (dst + a))
+          (λ a. m.held c.loop-end.rows (dst + a)) (λ a. m.held c.write_entry.new.rows (dst + a))
           (λ x a. place + x < length first → get_or old (place + x) 0 ≡ a) (λ x a. place + x < length first → get_or new (place + x) 0 ≡ a) t r
-          c.loop-end.invariant.0 (λ a lt. c.loop-end.invariant.2 (src + a) (out a (omega arith))) c.in-ok-found.ensures.0 c.in-ok-found.ensures.1
-          c.write-entry.ensures.here (λ k ne. c.write-entry.ensures.others (dst + k) (λ e. ne (omega arith)))
+          c.loop-end.invariant.0 (λ a lt. c.loop-end.invariant.2 (src + a) (out a (omega arith))) c.in_ok-found.ensures.0 c.in_ok-found.ensures.1
+          c.write_entry.ensures.here (λ k ne. c.write_entry.ensures.others (dst + k) (λ e. ne (omega arith)))
           (λ room. ap (λ (l : List ℕ). get_or l (place + t) 0) traced ∙ get_or-set_same old (place + t) (start_of r) 0 (omega (arith, c.loop-end.auto.trace))) (λ k a lt was room. other (place + k) (λ e. omega arith) ∙ was room),
       (λ k lt. other k (λ e. omega arith) ∙ c.loop-end.invariant.1 k lt),
-      λ k away. c.write-entry.ensures.others k (λ e. elim away [ inl l ↦ omega arith | inr l ↦ omega arith ]) ∙ c.loop-end.invariant.2 k away,
+      λ k away. c.write_entry.ensures.others k (λ e. elim away [ inl l ↦ omega arith | inr l ↦ omega arith ]) ∙ c.loop-end.invariant.2 k away,
     )
   where
     out : (a : ℕ) → a < c.args.n + 1 → (c.args.src + a < c.args.dst) ⊎ (c.args.dst + c.args.n < c.args.src + a)

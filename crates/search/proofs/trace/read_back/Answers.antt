@@ -9,7 +9,7 @@ loop-start-init c =
     let start-for : ℕ → ℕ → ℕ = start_at c.args.trace.now in
     let prev : ℕ → ℕ = row_before c.args.width in
     let h = c.requires.leads in
-    let last : ℕ = c.args.last-row in
+    let last : ℕ = c.args.last_row in
     let n : ℕ = c.args.n in
     let first = first_back prev start-for last n c.requires.size.0 h.0 h.1 h.2 in (
       omega (arith, first.0),
@@ -25,14 +25,14 @@ loop-start-init c =
     )
 
 pub bounds-trace-row : goal.bounds-trace-row
-bounds-trace-row c = omega (arith, c.saturating-sub-row.ensures, c.loop-start.invariant.0, c.loop-start.invariant.1, c.requires.room, c.loop-start.auto.trace)
+bounds-trace-row c = omega (arith, c.saturating_sub-row.ensures, c.loop-start.invariant.0, c.loop-start.invariant.1, c.requires.room, c.loop-start.auto.trace)
 
 -- the next start
-next_is : (c : goal.After-slice-known-in-loop-start·1) → get_or c.loop-start.trace (c.saturating-sub-row.result + c.loop-start.start) 0 ≡ start_at c.args.trace.now (c.loop-start.row - c.args.width) c.loop-start.start
+next_is : (c : goal.After-slice_known-in-loop-start-1) → get_or c.loop-start.trace (c.saturating_sub-row.result + c.loop-start.start) 0 ≡ start_at c.args.trace.now (c.loop-start.row - c.args.width) c.loop-start.start
 next_is c =
-    c.loop-start.invariant.2 _ (omega (arith, c.saturating-sub-row.ensures, c.loop-start.invariant.0)) ∙ ap (λ (x : ℕ). get_or c.args.trace.now (x + c.loop-start.start) 0) c.saturating-sub-row.ensures
+    c.loop-start.invariant.2 _ (omega (arith, c.saturating_sub-row.ensures, c.loop-start.invariant.0)) ∙ ap (λ (x : ℕ). get_or c.args.trace.now (x + c.loop-start.start) 0) c.saturating_sub-row.ensures
 
-back : (c : goal.After-slice-known-in-loop-start·1)
+back : (c : goal.After-slice_known-in-loop-start-1)
     → (start_at c.args.trace.now (c.loop-start.row - c.args.width) c.loop-start.start < c.loop-start.start)
     × ((more : List ℕ) × Falling (start_at c.args.trace.now (c.loop-start.row - c.args.width) c.loop-start.start) more
     × Traced (row_before c.args.width) (start_at c.args.trace.now) (c.loop-start.row - c.args.width - c.args.width) (start_at c.args.trace.now (c.loop-start.row - c.args.width) c.loop-start.start) more
@@ -49,8 +49,8 @@ loop-start-preserved c =
     let a : ℕ = c.loop-start.start in
     let w : ℕ = c.args.width in
     let i : ℕ = c.loop-start.from - 1 in
-    let end : ℕ = c.args.last-row + c.args.n + 1 in
-    let row : ℕ = c.saturating-sub-row.result in
+    let end : ℕ = c.args.last_row + c.args.n + 1 in
+    let row : ℕ = c.saturating_sub-row.result in
     let x : ℕ = get_or trace (row + a) 0 in
     let y : ℕ = start_at old (c.loop-start.row - w) a in
     let e : x ≡ y = next_is c in
@@ -61,9 +61,9 @@ loop-start-preserved c =
     let short : i < end = omega (arith, c.loop-start.invariant.0, c.loop-start.invariant.1) in
     let next : i + 1 ≡ c.loop-start.from = omega (arith, c.loop-start.invariant.0) in
     let traced : Traced (row_before w) (start_at old) (row - w) x more =
-    subst (λ (r : ℕ). Traced (row_before w) (start_at old) (r - w) x more) (sym c.saturating-sub-row.ensures)
+    subst (λ (r : ℕ). Traced (row_before w) (start_at old) (r - w) x more) (sym c.saturating_sub-row.ensures)
     (subst (λ (z : ℕ). Traced (row_before w) (start_at old) (c.loop-start.row - w - w) z more) (sym e) b.1.2) in (
-      omega (arith, c.saturating-sub-row.ensures, c.loop-start.invariant.0),
+      omega (arith, c.saturating_sub-row.ensures, c.loop-start.invariant.0),
       omega (arith, c.loop-start.invariant.1),
       (λ j l. get_or-set_other trace i j a 0 (omega arith) ∙ c.loop-start.invariant.2 j (omega arith)),
       (
