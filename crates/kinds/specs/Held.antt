@@ -5,8 +5,8 @@ use Rattle.loss.specs.Table.{Sound}
 use Rattle.layers.specs.Layers.{weighted}
 use Rattle.layers.specs.Kept.{paired_sound, weighted_sound}
 use Rattle.leaves.specs.Readings.{table_of, differs}
-use Rattle.leaves.specs.Held.{squares_readings, squares_sound}
-use Rattle.leaves.specs.Held.{votes_readings, votes_sound}
+use Rattle.leaves.specs.Held.{squares_readings, votes_readings}
+use Rattle.leaves.specs.Soundness.{squares_sound, votes_sound}
 use Rattle.kinds.specs.declared.pair_readings.PairReadings.{PairReadings}
 use Rattle.kinds.specs.Sides.{Sides, port_table, pair_table}
 

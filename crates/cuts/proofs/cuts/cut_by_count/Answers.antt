@@ -8,13 +8,13 @@ use Rattle.cuts.proofs.Reached.{none_by_count, some_by_count}
 use Rattle.cuts.proofs.Settled.{settled_some, settled_none}
 use Rattle.cuts.proofs.cuts.cut_by_count.Goals as goal
 
-pub set-boundaries-requires : goal.set-boundaries-requires
-set-boundaries-requires g c =
+pub set_boundaries-requires : goal.set_boundaries-requires
+set_boundaries-requires g c =
     let T : Table = g.L.Loss.table c.args.loss.now in
-    let won = some_by_count T c.args.n c.args.shortest c.args.marks.now _ _ c.capacity.result c.args.count c.best-of-count.new.trace c.in-ok-total.field-0 c.in-Some.total c.in-Some.from
-    c.in-ok-check-by-count.ensures c.in-ok-total.ensures c.in-Some.is in
+    let won = some_by_count T c.args.n c.args.shortest c.args.marks.now _ _ c.capacity.result c.args.count c.best_of_count.new.trace c.in_ok-total.field-0 c.in-Some.total c.in-Some.from
+    c.in_ok-check_by_count.ensures c.in_ok-total.ensures c.in-Some.is in
     record {
-      order = (won.order.0, omega (arith, won.order.1, c.best-of-count.auto.trace));
+      order = (won.order.0, omega (arith, won.order.1, c.best_of_count.auto.trace));
       room = omega (arith, won.room, c.capacity.ensures.value, ap (λ b. length (places b)) c.capacity.ensures.same);
     }
 
@@ -23,15 +23,15 @@ returns-in-Some g c =
     let T : Table = g.L.Loss.table c.args.loss.now in
     let n : ℕ = c.args.n in
     let k : ℕ = c.args.count in
-    let trace : List ℕ = c.best-of-count.new.trace in
+    let trace : List ℕ = c.best_of_count.new.trace in
     let same = c.capacity.ensures.same in
     let d : List ℕ = part c.in-Some.from ((k + 1) * (n + 1)) trace in
-    let begun = subst (λ (x : ℕ). count_refusal T n k (length c.args.numbers.now) (length c.args.trace.now) x ≡ None) c.capacity.ensures.value c.in-ok-check-by-count.ensures in
-    let won = some_by_count T n c.args.shortest c.args.marks.now _ _ _ k trace c.in-ok-total.field-0 c.in-Some.total c.in-Some.from begun c.in-ok-total.ensures c.in-Some.is in
+    let begun = subst (λ (x : ℕ). count_refusal T n k (length c.args.numbers.now) (length c.args.trace.now) x ≡ None) c.capacity.ensures.value c.in_ok-check_by_count.ensures in
+    let won = some_by_count T n c.args.shortest c.args.marks.now _ _ _ k trace c.in_ok-total.field-0 c.in-Some.total c.in-Some.from begun c.in_ok-total.ensures c.in-Some.is in
     record {
-      cut = settled_some _ _ (total (by_count k) T.loss n) c.args.boundaries.now c.set-boundaries.new.boundaries c.args.numbers.now c.best-of-count.new.rows c.args.trace.now trace c.in-Some.total d
-          begun won.is won.costs won.bounded c.set-boundaries.ensures.entries (c.set-boundaries.ensures.places ∙ ap (λ b. d ++ drop (length d) (places b)) same);
-      lender = c.set-boundaries.ensures.lender ∙ ap (λ b. b.items.ghost_name) same;
+      cut = settled_some _ _ (total (by_count k) T.loss n) c.args.boundaries.now c.set_boundaries.new.boundaries c.args.numbers.now c.best_of_count.new.rows c.args.trace.now trace c.in-Some.total d
+          begun won.is won.costs won.bounded c.set_boundaries.ensures.entries (c.set_boundaries.ensures.places ∙ ap (λ b. d ++ drop (length d) (places b)) same);
+      lender = c.set_boundaries.ensures.lender ∙ ap (λ b. b.items.ghost_name) same;
     }
 
 pub returns-in-None : goal.returns-in-None
@@ -39,9 +39,9 @@ returns-in-None g c =
     let T : Table = g.L.Loss.table c.args.loss.now in
     let n : ℕ = c.args.n in
     let k : ℕ = c.args.count in
-    let begun = subst (λ (x : ℕ). count_refusal T n k (length c.args.numbers.now) (length c.args.trace.now) x ≡ None) c.capacity.ensures.value c.in-ok-check-by-count.ensures in
-    let none = none_by_count T n c.args.shortest c.args.marks.now _ _ _ k c.best-of-count.new.trace c.in-ok-total.field-0 begun c.in-ok-total.ensures c.in-None.is in
+    let begun = subst (λ (x : ℕ). count_refusal T n k (length c.args.numbers.now) (length c.args.trace.now) x ≡ None) c.capacity.ensures.value c.in_ok-check_by_count.ensures in
+    let none = none_by_count T n c.args.shortest c.args.marks.now _ _ _ k c.best_of_count.new.trace c.in_ok-total.field-0 begun c.in_ok-total.ensures c.in-None.is in
     record {
-      cut = settled_none _ _ (total (by_count k) T.loss n) c.args.boundaries.now c.capacity.new.self c.args.numbers.now c.best-of-count.new.rows c.args.trace.now c.best-of-count.new.trace begun none c.capacity.ensures.same;
+      cut = settled_none _ _ (total (by_count k) T.loss n) c.args.boundaries.now c.capacity.new.self c.args.numbers.now c.best_of_count.new.rows c.args.trace.now c.best_of_count.new.trace begun none c.capacity.ensures.same;
       lender = ap (λ b. b.items.ghost_name) c.capacity.ensures.same;
     }

@@ -9,7 +9,7 @@ use Rattle.cuts.proofs.least.least_by_count.Goals as goal
 pub returns : goal.returns
 returns g c =
     let n = c.args.n in
-    answered c.least-losses.result
+    answered c.least_losses.result
     (λ each k lt. count_least (g.L.Loss.table c.args.loss.now).loss (marks_of c.args.marks.now) c.args.shortest n c.requires.size.0 (table_formed c.args.marks.now) k
-    (loss_held c.least-losses.new.numbers (2 * (n + 1) + k)) (each k lt))
-    c.least-losses.ensures
+    (loss_held c.least_losses.new.numbers (2 * (n + 1) + k)) (each k lt))
+    c.least_losses.ensures

@@ -6,14 +6,14 @@ use Rattle.frames.specs.Numbers.{two_bytes, eight_bytes}
 use Rattle.replies.proofs.Behind.{put_none, put_then}
 use Rattle.replies.proofs.parts.put_cut.Goals as goal
 
-pub returns-in-err-put-text : goal.returns-in-err-put-text
-returns-in-err-put-text c =
-    let p = err_from_is_err_and c.from-residual.result c.from-residual.ensures.1 in
-    rw p.1 (put_none (vec_items c.args.out.now) (vec_items c.put-text.new.out) c.in-err-put-text.ensures)
+pub returns-in_err-put_text : goal.returns-in_err-put_text
+returns-in_err-put_text c =
+    let p = err_from_is_err_and c.from_residual.result c.from_residual.ensures.1 in
+    rw p.1 (put_none (vec_items c.args.out.now) (vec_items c.put_text.new.out) c.in_err-put_text.ensures)
 
 pub returns : goal.returns
 returns c =
     let gaps = c.args.boundaries.now in
-    put_then c.put-boundaries.result (c.args.kind ∷ (eight_bytes c.args.total ++ two_bytes (length gaps))) (flat_map two_bytes gaps) (vec_items c.args.out.now)
-    (vec_items c.put-text.new.out) (vec_items c.put-boundaries.new.out)
-    (c.in-ok-put-text.ensures ∙ ap (λ bs. vec_items c.args.out.now ++ text_of bs) c.cut-front.ensures) c.put-boundaries.ensures
+    put_then c.put_boundaries.result (c.args.kind ∷ (eight_bytes c.args.total ++ two_bytes (length gaps))) (flat_map two_bytes gaps) (vec_items c.args.out.now)
+    (vec_items c.put_text.new.out) (vec_items c.put_boundaries.new.out)
+    (c.in_ok-put_text.ensures ∙ ap (λ bs. vec_items c.args.out.now ++ text_of bs) c.cut_front.ensures) c.put_boundaries.ensures

@@ -7,14 +7,14 @@ use Rattle.replies.specs.Answered.{step_bytes}
 use Rattle.replies.proofs.Behind.{put_none, put_then}
 use Rattle.replies.proofs.parts.put_path.Goals as goal
 
-pub returns-in-err-put-text : goal.returns-in-err-put-text
-returns-in-err-put-text c =
-    let p = err_from_is_err_and c.from-residual.result c.from-residual.ensures.1 in
-    rw p.1 (put_none (vec_items c.args.out.now) (vec_items c.put-text.new.out) c.in-err-put-text.ensures)
+pub returns-in_err-put_text : goal.returns-in_err-put_text
+returns-in_err-put_text c =
+    let p = err_from_is_err_and c.from_residual.result c.from_residual.ensures.1 in
+    rw p.1 (put_none (vec_items c.args.out.now) (vec_items c.put_text.new.out) c.in_err-put_text.ensures)
 
 pub returns : goal.returns
 returns c =
     let steps = c.args.steps.now in
-    put_then c.put-steps.result (0x32 ∷ two_bytes (length steps)) (flat_map step_bytes steps) (vec_items c.args.out.now) (vec_items c.put-text.new.out)
-    (vec_items c.put-steps.new.out)
-    (c.in-ok-put-text.ensures ∙ ap (λ bs. vec_items c.args.out.now ++ text_of bs) c.path-front.ensures) c.put-steps.ensures
+    put_then c.put_steps.result (0x32 ∷ two_bytes (length steps)) (flat_map step_bytes steps) (vec_items c.args.out.now) (vec_items c.put_text.new.out)
+    (vec_items c.put_steps.new.out)
+    (c.in_ok-put_text.ensures ∙ ap (λ bs. vec_items c.args.out.now ++ text_of bs) c.path_front.ensures) c.put_steps.ensures
