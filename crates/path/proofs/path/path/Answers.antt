@@ -10,17 +10,17 @@ use Rattle.path.proofs.path.path.Goals as goal
 pub steps-requires : goal.steps-requires
 steps-requires g c =
     let t : Table = g.L.Loss.table c.args.loss.now in
-    let b = begun t c.args.n (length c.args.numbers.now) c.capacity-room.result c.in-ok-check-path.ensures in
-    row_fits t (g.L.Loss.sound c.args.loss.now) b.usable.light (marks_of c.args.marks.now) c.args.shortest c.args.n b.short b.usable.long c.least-by-count.new.numbers
-    (omega (arith, b.numbers_room, c.least-by-count.auto.numbers)) c.in-ok-least-by-count.ensures
+    let b = begun t c.args.n (length c.args.numbers.now) c.capacity-room.result c.in_ok-check_path.ensures in
+    row_fits t (g.L.Loss.sound c.args.loss.now) b.usable.light (marks_of c.args.marks.now) c.args.shortest c.args.n b.short b.usable.long c.least_by_count.new.numbers
+    (omega (arith, b.numbers_room, c.least_by_count.auto.numbers)) c.in_ok-least_by_count.ensures
 
 pub returns : goal.returns
 returns g c =
     let t : Table = g.L.Loss.table c.args.loss.now in
-    let go = subst (λ (x : ℕ). path_refusal t c.args.n (length c.args.numbers.now) x ≡ None) c.capacity-room.ensures.value c.in-ok-check-path.ensures in
+    let go = subst (λ (x : ℕ). path_refusal t c.args.n (length c.args.numbers.now) x ≡ None) c.capacity-room.ensures.value c.in_ok-check_path.ensures in
     record {
-      path = written t (marks_of c.args.marks.now) c.args.shortest c.args.n c.args.numbers.now c.least-by-count.new.numbers c.args.list.now c.capacity-room.new.self c.steps.new.list c.steps.result
-          c.capacity-room.ensures.same go c.least-by-count.auto.numbers c.in-ok-least-by-count.ensures c.steps.ensures.value c.steps.ensures.cases;
-      lender = lent t (marks_of c.args.marks.now) c.args.shortest c.args.n c.args.numbers.now c.least-by-count.new.numbers c.args.list.now c.capacity-room.new.self c.steps.new.list c.steps.result
-          c.capacity-room.ensures.same go c.least-by-count.auto.numbers c.in-ok-least-by-count.ensures c.steps.ensures.value c.steps.ensures.cases;
+      path = written t (marks_of c.args.marks.now) c.args.shortest c.args.n c.args.numbers.now c.least_by_count.new.numbers c.args.list.now c.capacity-room.new.self c.steps.new.list c.steps.result
+          c.capacity-room.ensures.same go c.least_by_count.auto.numbers c.in_ok-least_by_count.ensures c.steps.ensures.value c.steps.ensures.cases;
+      lender = lent t (marks_of c.args.marks.now) c.args.shortest c.args.n c.args.numbers.now c.least_by_count.new.numbers c.args.list.now c.capacity-room.new.self c.steps.new.list c.steps.result
+          c.capacity-room.ensures.same go c.least_by_count.auto.numbers c.in_ok-least_by_count.ensures c.steps.ensures.value c.steps.ensures.cases;
     }

@@ -11,7 +11,7 @@ returns-then-length-readings c =
     let bytes = c.args.readings.now in
     let old = both_sides c.args.self.now in
     let more : 512 < length old.port + length (brought Three bytes).port = omega (arith, ports bytes, c.length.ensures, c.args.self.now.even, c.if-length-readings.true) in
-    let t = refused old (brought Three bytes) (sym c.if-not-accepts-codes.ensures) more in
+    let t = refused old (brought Three bytes) (sym c.if-not-accepts_codes.ensures) more in
     record { result = t.0; holds = t.1 }
 
 pub add-requires : goal.add-requires
@@ -41,8 +41,8 @@ returns c =
     let old = both_sides c.args.self.now in
     let s = both_sides c.loop-reading.self in
     let room : length old.port + length (brought Three bytes).port ≤ 512 = omega (arith, ports bytes, c.length.ensures, c.args.self.now.even, c.if-length-readings.false) in
-    let is : s ≡ together old (brought Three bytes) = sym (last_both s c.loop-reading.left.now c.in-default.ensures) ∙ c.loop-reading.invariant.0 in
+    let is : s ≡ together old (brought Three bytes) = sym (last_both s c.loop-reading.left.now c.in_default.ensures) ∙ c.loop-reading.invariant.0 in
     let held : length s.port ≡ length old.port + length (brought Three bytes).port = ap (λ (t : Sides). length t.port) is ∙ length-append old.port (brought Three bytes).port in
     let count : c.length-2.result ≡ length old.port + length (brought Three bytes).port = omega (arith, held, c.length-2.ensures, c.loop-reading.self.even) in
-    let t = all_taken old (brought Three bytes) c.length-2.result (sym c.if-not-accepts-codes.ensures) room count in
+    let t = all_taken old (brought Three bytes) c.length-2.result (sym c.if-not-accepts_codes.ensures) room count in
     record { result = t.0; holds = is ∙ t.1 }

@@ -19,8 +19,8 @@ returns-then-length-readings c =
     let t = refused old (brought Two bytes) refl more in
     record { result = t.0; holds = t.1 }
 
-pub returns-in-err-push : goal.returns-in-err-push
-returns-in-err-push c =
+pub returns-in_err-push : goal.returns-in_err-push
+returns-in_err-push c =
     let bytes = c.args.readings.now in
     let was = squares_readings c.args.self.now in
     let xs = squares_readings c.loop-reading.self in
@@ -29,10 +29,10 @@ returns-in-err-push c =
     let fits : SFits w16 x = search rules in
     let wide : SFits w32 c.from.result = search rules in
     let same : to_z w32 (of_z w32 c.from.result) ≡ x = to_z-of_z w32 c.from.result wide ∙ c.from.ensures ∙ to_z-of_z w16 x fits in
-    let h = c.in-err-push.ensures.result ∙ ap (taken-one lowest 65535 xs) same in
+    let h = c.in_err-push.ensures.result ∙ ap (taken-one lowest 65535 xs) same in
     let room : length was + length (readings_in bytes) ≤ 512 = omega (arith, halves bytes, c.length.ensures, c.if-length-readings.false) in
     let one = ap (λ (zs : List ℤ). xs ++ zs) (sym c.in-Some.ensures.0) ∙ c.loop-reading.invariant in
-    absurd (none_refused xs x c.in-err-push.field-0.0 fits (room_left xs ys was (readings_in bytes) x one room) h)
+    absurd (none_refused xs x c.in_err-push.field-0.0 fits (room_left xs ys was (readings_in bytes) x one room) h)
 
 pub loop-reading-preserved : goal.loop-reading-preserved
 loop-reading-preserved c =
@@ -53,7 +53,7 @@ returns c =
     let old = port_alone c.args.self.now in
     let xs = squares_readings c.loop-reading.self in
     let room : length old.port + length (readings_in bytes) ≤ 512 = omega (arith, halves bytes, c.length.ensures, c.if-length-readings.false) in
-    let is : xs ≡ old.port ++ readings_in bytes = sym (append-nil xs) ∙ ap (λ (zs : List ℤ). xs ++ zs) (sym c.in-default.ensures) ∙ c.loop-reading.invariant in
+    let is : xs ≡ old.port ++ readings_in bytes = sym (append-nil xs) ∙ ap (λ (zs : List ℤ). xs ++ zs) (sym c.in_default.ensures) ∙ c.loop-reading.invariant in
     let count : c.length-2.result ≡ length old.port + length (readings_in bytes) = c.length-2.ensures ∙ ap length is ∙ length-append old.port (readings_in bytes) in
     let t = all_taken old (brought Two bytes) c.length-2.result refl room count in
     record { result = t.0; holds = ap (λ (zs : List ℤ). record { port = zs; starboard = [] }) is ∙ t.1 }

@@ -8,8 +8,8 @@ use Rattle.leaves.specs.Held.{votes_readings}
 use Rattle.kinds.proofs.Frames.{one_taken, code_taken}
 use Rattle.kinds.proofs.pair_readings.PairReadings.add.Goals as goal
 
-pub invariant-of-self-2 : goal.invariant-of-self-2
-invariant-of-self-2 c =
+pub invariant_of-self-2 : goal.invariant_of-self-2
+invariant_of-self-2 c =
     let s = c.args.self.now in
     let p = c.args.reading in
     let xs = squares_readings s.pair.port in
@@ -23,4 +23,4 @@ invariant-of-self-2 c =
     let k = c.push-2.ensures.holds ∙ ap (after_one (pos 0) 15 ks) as_code in
     let n = ap length (h ∙ (one_taken xs p.port fits c.requires.1).1) ∙ length-append xs (p.port ∷ []) in
     let m = ap length (k ∙ (code_taken ks p.code c.requires.0 (omega (arith, c.requires.1, s.even))).1) ∙ length-append ks (pos p.code ∷ []) in
-    (s.weight, (omega (arith, n, m, s.even), tt))
+    record { weight = s.weight; even = omega (arith, n, m, s.even) }
