@@ -1,11 +1,10 @@
 -- A division is allowed exactly where each of its stretches is permitted. Each mark is so by itself: that marks share no gap is not used.
-use Rattle.std.proofs.Common.{◌≡◌, ℕ, zero, suc, ◌+◌, ◌<◌, ◌≤◌, Bool, true, false, cond, ◌&&◌, ltb, leb, ◌⊎◌, ◌↔◌, List, [], ◌∷◌, sym, refl, ap, ◌∙◌, inl, inr, arith}
+use Rattle.std.proofs.Common.{◌≡◌, ℕ, suc, ◌+◌, ◌<◌, ◌≤◌, true, false, ◌⊎◌, ◌↔◌, List, [], ◌∷◌, sym, refl, ap, ◌∙◌, inl, inr, arith}
 use Rattle.std.specs.List.{AllByRecursion as All}
-use Rattle.std.proofs.lemmas.Bool.Decides.{Decides-and, Decides-ltb}
 use Rattle.std.proofs.lemmas.Bool.{cases_lt, cond-true, cond-false, cases_Bool}
 use Rattle.division.specs.Division.{EachStretch, Division}
 use Rattle.division.specs.declared.mark.Mark.{Mark}
-use Rattle.division.specs.Marks.{boundaries_in, Obeys, Allowed, Covers, covers}
+use Rattle.division.specs.Marks.{boundaries_in, Obeys, Covers, covers}
 use Rattle.division.specs.Stretches.{WellFormed, KeepsNone, KeepsOne, Permits, Permitted}
 use Rattle.division.specs.Theorems.{AllowedByStretch}
 use Rattle.division.proofs.Tested.{decides_covers}

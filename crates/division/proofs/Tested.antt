@@ -1,14 +1,14 @@
 -- The tests say what the relations say.
-use Rattle.std.proofs.Common.{◌≡◌, ℕ, ◌+◌, ◌<◌, ◌≤◌, Bool, true, false, ◌&&◌, eqb, ltb, leb, List, [], ◌∷◌, length, Decides, sym, refl, ap, ap₂, arith}
+use Rattle.std.proofs.Common.{◌≡◌, ℕ, ◌+◌, ◌<◌, ◌≤◌, Bool, ◌&&◌, eqb, ltb, leb, List, [], ◌∷◌, length, Decides, refl, ap₂}
 use Rattle.std.specs.List.{AllByRecursion as All}
 use Rattle.std.proofs.lemmas.Bool.Decides.{Decides-and, Decides-or, Decides-ltb, Decides-eqb, Decides-like}
 use Rattle.std.proofs.ByRecursion.{Decides-by_and}
 use Rattle.std.proofs.lemmas.Bool.{leb-true, le-leb, false≢true}
 use Rattle.division.specs.declared.mark.Mark.{Mark}
-use Rattle.division.specs.Division.{EachStretch, each_stretch, Division, division, LongEnough, long_enough}
-use Rattle.division.specs.Marks.{Covers, covers, Obeys, obeys, obeys_all, Allowed, allowed}
-use Rattle.division.specs.Order.{same, Later, later, Beats, beats}
-use Rattle.division.specs.Winner.{Criterion, by_penalty, by_count, Candidate, candidate}
+use Rattle.division.specs.Division.{EachStretch, each_stretch, division, long_enough}
+use Rattle.division.specs.Marks.{Covers, covers, Obeys, obeys, obeys_all, allowed}
+use Rattle.division.specs.Order.{same, Later, later}
+use Rattle.division.specs.Winner.{by_penalty, by_count}
 use Rattle.division.specs.Theorems.{AllowedTested, CandidateTested, BeatsTested}
 
 pub decides_leb : (a b : ℕ) → Decides (leb a b) (a ≤ b)

@@ -1,6 +1,6 @@
 -- A division of n readings: a rising list of gaps, each from 1 to n - 1. Gap i lies between reading i and reading i + 1.
 -- Stretch (a, b) holds the readings a + 1 to b. The stretches of ds, from a on, are the neighbours in a ∷ ds ++ n ∷ [].
-use Rattle.std.specs.Prelude.{ℕ, zero, suc, ◌+◌, ◌<◌, ◌≤◌, Bool, true, false, ◌&&◌, List, [], ◌∷◌, ◌++◌, map, nat_le, nat_lt}
+use Rattle.std.specs.Prelude.{ℕ, zero, suc, ◌+◌, ◌<◌, ◌≤◌, Bool, ◌&&◌, List, [], ◌∷◌, ◌++◌, map, nat_le, nat_lt}
 
 -- P of every stretch
 abbrev pub EachStretch : (ℕ → ℕ → Type 0) → ℕ → ℕ → List ℕ → Type 0

@@ -1,6 +1,6 @@
 -- Which of two divisions is better: the cheaper, then the one with fewer boundaries, then the one with the later last boundary,
 -- then the later one before it, and so on.
-use Rattle.std.specs.Prelude.{◌≡◌, ℕ, ◌<◌, Bool, true, false, ◌&&◌, ◌||◌, ◌⊎◌, List, [], ◌∷◌, ◌++◌, length, ◌==◌, nat_lt}
+use Rattle.std.specs.Prelude.{◌≡◌, ℕ, ◌<◌, Bool, true, false, ◌&&◌, ◌||◌, ◌⊎◌, List, [], ◌∷◌, ◌++◌, ◌==◌, nat_lt}
 
 -- fewer boundaries; of as many, the later where they last differ: what stands behind decides first
 abbrev pub Later : List ℕ → List ℕ → Type 0

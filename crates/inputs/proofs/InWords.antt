@@ -1,9 +1,9 @@
 -- Lines are read as they were written.
-use Rattle.std.proofs.Common.{◌≡◌, ℕ, ◌+◌, ◌≤◌, false, eqb, List, [], ◌∷◌, ◌++◌, length, take, sym, refl, ap, ◌∙◌, arith}
+use Rattle.std.proofs.Common.{◌≡◌, ℕ, ◌+◌, false, eqb, List, [], ◌∷◌, ◌++◌, refl, ap, ◌∙◌, arith}
 use Rattle.std.specs.List.{AllByRecursion as All}
 use Rattle.std.proofs.lemmas.Bool.{ne_eqb}
 use Rattle.std.proofs.lemmas.List.{append_assoc, length-take, take_all}
-use Rattle.inputs.specs.Lines.{on_first, all_lines, replies_to, text_of}
+use Rattle.inputs.specs.Lines.{on_first, all_lines, text_of}
 use Rattle.inputs.specs.Theorems.{OneLine, LinesInWords, OneEach}
 
 -- a line and its end, and what stands behind them

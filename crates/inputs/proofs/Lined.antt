@@ -1,7 +1,7 @@
 -- What is printed, byte by byte, is the reply to each line.
-use Rattle.std.proofs.Common.{◌≡◌, ℕ, zero, suc, ◌+◌, ◌<◌, ◌≤◌, Bool, true, false, eqb, List, [], ◌∷◌, ◌++◌, length, take, fold, sym, refl, ap, ◌∙◌, subst, inl, inr, arith}
+use Rattle.std.proofs.Common.{◌≡◌, ℕ, zero, suc, ◌+◌, true, false, eqb, List, [], ◌∷◌, ◌++◌, length, take, fold, sym, refl, ap, ◌∙◌, subst, inl, inr, arith}
 use Rattle.std.proofs.lemmas.Bool.{ne_eqb, eq-eqb, cases_Bool, cases_lt}
-use Rattle.std.proofs.lemmas.List.{length-take-le, take_all, append-nil, append_assoc, take-append-le, length_push}
+use Rattle.std.proofs.lemmas.List.{length-take-le, take_all, append-nil, append_assoc, take-append-le}
 use Rattle.inputs.specs.Lines.{on_first, all_lines, lines_of, whole, state_after, replies_to, text_of}
 use Rattle.inputs.specs.Reading.{Read, begun, ended, next, closed, Answered, LineByLine}
 

@@ -1,9 +1,8 @@
 -- What an answer tells.
-use Rattle.std.proofs.Common.{◌≡◌, ℕ, ◌+◌, ◌-◌, ◌*◌, ◌^◌, ◌<◌, ◌≤◌, min, Ok, Err, Result, sym, refl, ap, ◌∙◌, mul_assoc, add-mul, mul-le-mul, mul-le-mul_left, arith}
+use Rattle.std.proofs.Common.{◌≡◌, ℕ, ◌-◌, ◌*◌, ◌^◌, ◌<◌, ◌≤◌, Ok, mul-le-mul, arith}
 use Rattle.std.proofs.lemmas.Bool.Decides.{nat_tests}
-use Rattle.fault.specs.declared.Fault.{Fault}
 use Rattle.loss.specs.Table.{Table, Sound, answer}
-use Rattle.layers.specs.Layers.{weighted, paired}
+use Rattle.layers.specs.Layers.{weighted}
 use Rattle.layers.specs.Kept.{weighted_sound}
 
 pub answered : (l : Table) (a b t : ℕ) → Ok t ≡ answer l a b → (l.ceiling ≤ 2 ^ 40) × (a < b) × (b ≤ l.length) × (t ≡ l.loss a b)

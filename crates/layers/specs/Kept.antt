@@ -1,8 +1,7 @@
 -- The layers keep the rules of a loss.
-use Rattle.std.specs.Prelude.{◌≡◌, ℕ, suc, ◌+◌, ◌-◌, ◌*◌, ◌^◌, ◌<◌, ◌≤◌, min, Bool, true, false, cond, Ok, Err, Result, nat_lt, refl}
-use Rattle.std.proofs.Common.{sym, ap, ◌∙◌, mul-le-mul, mul-le-mul_left, mul_assoc, add-mul, arith, inl, inr}
+use Rattle.std.specs.Prelude.{◌≡◌, ℕ, suc, ◌+◌, ◌-◌, ◌*◌, ◌^◌, ◌≤◌, Bool, true, false, cond, nat_lt, refl}
+use Rattle.std.proofs.Common.{sym, ◌∙◌, mul-le-mul_left, mul_assoc, add-mul, arith, inl, inr}
 use Rattle.std.proofs.lemmas.Bool.Decides.{leb_tells}
-use Rattle.fault.specs.declared.Fault.{Fault}
 use Rattle.loss.specs.Table.{Table, Sound}
 use Rattle.layers.specs.Layers.{capped, weighted, paired}
 

@@ -1,9 +1,9 @@
 -- Lifting takes the one mark from those that stand.
-use Rattle.std.proofs.Common.{◌≡◌, ℕ, suc, ◌<◌, ◌≤◌, true, false, cond, ◌||◌, eqb, ◌⊎◌, List, [], ◌∷◌, length, None, sym, refl, ap, ◌∙◌, inl, inr, ⊎_elim, arith}
+use Rattle.std.proofs.Common.{◌≡◌, ℕ, suc, true, false, eqb, ◌⊎◌, List, [], ◌∷◌, length, sym, refl, ap, ◌∙◌, inl, inr, ⊎_elim, arith}
 use Rattle.std.proofs.lemmas.Bool.{cases_eq, eq-eqb, ne_eqb}
 use Rattle.std.proofs.lemmas.Bool.Decides.{nat_tests}
 use Rattle.division.specs.declared.mark.Mark.{Mark}
-use Rattle.marks.specs.Marks.{in_order, begins_at, lifted, lift_refusal}
+use Rattle.marks.specs.Marks.{in_order, begins_at, lifted}
 use Rattle.division.specs.Theorems.{In}
 use Rattle.marks.specs.Theorems.{LessOne, LiftedTakesOne, LiftedWhenOneBegins}
 use Rattle.marks.proofs.Order.{begun, lifted_in_order}

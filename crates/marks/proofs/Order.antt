@@ -1,9 +1,9 @@
 -- Laying and lifting a mark keep the marks in order.
-use Rattle.std.proofs.Common.{◌≡◌, ℕ, ◌<◌, ◌≤◌, true, false, cond, ◌&&◌, ◌||◌, eqb, ltb, leb, List, [], ◌∷◌, length, Some, None, sym, refl, ◌∙◌, subst, ⊎_elim, arith}
+use Rattle.std.proofs.Common.{◌≡◌, ℕ, ◌<◌, ◌≤◌, true, false, eqb, ltb, List, [], ◌∷◌, length, None, sym, refl, ◌∙◌, subst, ⊎_elim, arith}
 use Rattle.std.proofs.lemmas.Bool.{cases_lt, cases_eq, eq-eqb, ne_eqb}
 use Rattle.std.proofs.lemmas.Bool.Decides.{nat_tests}
 use Rattle.division.specs.declared.mark.Mark.{Mark}
-use Rattle.marks.specs.Marks.{well_formed, shares_gap, shares_any, in_order, laid, lifted, lay_refusal}
+use Rattle.marks.specs.Marks.{shares_any, in_order, laid, lifted, lay_refusal}
 
 -- What `in_order` says of the first mark and of the rest.
 pub record Begun (low : ℕ) (m : Mark) (ms : List Mark) : Type 0 where

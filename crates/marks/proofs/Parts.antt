@@ -1,9 +1,9 @@
 -- A turn of a part of a slice by one place inserts an element there, or removes one.
-use Rattle.std.proofs.Common.{◌≡◌, ℕ, suc, ◌+◌, ◌-◌, ◌<◌, ◌≤◌, min, List, [], ◌∷◌, ◌++◌, length, get_or, take, drop, set, sym, refl, ap, ◌∙◌, subst, add-one, arith}
+use Rattle.std.proofs.Common.{◌≡◌, ℕ, suc, ◌+◌, ◌-◌, ◌<◌, ◌≤◌, List, [], ◌∷◌, ◌++◌, length, take, drop, set, sym, ap, ◌∙◌, add-one, arith}
 use borrow.Rule.Slice.PartMut.{put_mid}
-use Rattle.std.specs.List.{between, insert, remove}
-use Rattle.std.proofs.lemmas.List.{length-take, length-drop, length-set, length-append, length_push, take_more_set, drop-append-le, drop_at, take_at, take-take, take-set-le, take-append-drop, drop-drop, drop_more, append_assoc}
-use Rattle.std.proofs.lemmas.Slice.{between_is, take-put_mid, drop-put_mid}
+use Rattle.std.specs.List.{insert, remove}
+use Rattle.std.proofs.lemmas.List.{length-take, length-drop, length-set, length-append, length_push, take_more_set, drop-append-le, drop_at, take_at, take-take, take-set-le, drop-drop, append_assoc}
+use Rattle.std.proofs.lemmas.Slice.{between_is, take-put_mid}
 
 -- The last of a list put in front of the others.
 pub turned : {X : Type 0} (ps : List X) (m : X) → drop (length (ps ++ m ∷ []) - 1) (ps ++ m ∷ []) ++ take (length (ps ++ m ∷ []) - 1) (ps ++ m ∷ []) ≡ m ∷ ps

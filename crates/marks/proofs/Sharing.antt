@@ -1,13 +1,12 @@
 -- The test of a shared gap says that some gap is covered twice.
-use Rattle.std.proofs.Common.{◌≡◌, ℕ, ◌<◌, ◌≤◌, true, false, cond, ◌&&◌, ◌||◌, ltb, leb, ◌⊎◌, List, [], ◌∷◌, length, Some, None, sym, refl, ap, inl, inr, ⊎_elim, arith}
-use Rattle.std.proofs.lemmas.Bool.{cases_lt, le-ltb}
+use Rattle.std.proofs.Common.{◌≡◌, ℕ, ◌<◌, ◌≤◌, true, false, ltb, List, [], ◌∷◌, length, sym, refl, ap, inl, inr, ⊎_elim, arith}
+use Rattle.std.proofs.lemmas.Bool.{cases_lt}
 use Rattle.std.proofs.lemmas.Bool.Decides.{nat_tests}
 use Rattle.division.specs.declared.mark.Mark.{Mark}
-use Rattle.marks.specs.Marks.{well_formed, shares_gap, shares_any, in_order, lay_refusal}
+use Rattle.marks.specs.Marks.{well_formed, shares_gap, shares_any, in_order}
 use Rattle.division.specs.Marks.{Covers}
-use Rattle.division.specs.Stretches.{WellFormed}
 use Rattle.division.specs.Theorems.{In}
-use Rattle.marks.specs.Theorems.{Apart, Standing, Layable, LaidWhenLayable}
+use Rattle.marks.specs.Theorems.{Apart, LaidWhenLayable}
 use Rattle.marks.proofs.Order.{begun, allowed}
 use Rattle.marks.proofs.Stand.{ordered}
 

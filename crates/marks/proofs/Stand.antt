@@ -1,9 +1,8 @@
 -- The test of order says that marks stand together, and marks that do share no gap.
-use Rattle.std.proofs.Common.{◌≡◌, ℕ, zero, suc, ◌<◌, ◌≤◌, true, ◌⊎◌, List, [], ◌∷◌, length, get_or, sym, refl, ap, ◌∙◌, inl, inr, ⊎_elim, arith}
+use Rattle.std.proofs.Common.{◌≡◌, ℕ, zero, suc, ◌<◌, ◌≤◌, true, List, [], ◌∷◌, length, get_or, sym, refl, ap, ◌∙◌, ⊎_elim, arith}
 use Rattle.division.specs.declared.mark.Mark.{Mark}
 use Rattle.marks.specs.Marks.{in_order}
 use Rattle.division.specs.Marks.{Covers}
-use Rattle.division.specs.Stretches.{WellFormed}
 use Rattle.division.specs.Theorems.{In}
 use Rattle.marks.specs.Theorems.{BeginFrom, Standing, OrderDecidesStanding, EveryTableStands, LaterMarksBeginLater, NoGapShared}
 use Rattle.marks.specs.Table.{marks_of}

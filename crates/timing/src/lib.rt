@@ -1,5 +1,5 @@
-// The jobs of the benchmark as C functions, which bench/ links beside its plain Rust reference. Each job is run `times` times over
-// lent readings, and gives a digest of what it found.
+// The jobs of the benchmark, which the crate timing_c offers to C. Each job is run `times` times over lent readings, and gives a
+// digest of what it found.
 #![tactic(auto)]
 
 use cuts::cuts::{cut_by_count, cut_by_penalty};
@@ -134,32 +134,26 @@ fn path_of<L: Loss>(loss: &L, times: u32) -> u64 {
     sum
 }
 
-#[unsafe(no_mangle)]
-pub extern "C" fn squares_by_penalty(readings: &[u8], penalty: u64, times: u32) -> u64 {
+pub fn squares_by_penalty(readings: &[u8], penalty: u64, times: u32) -> u64 {
     by_penalty(&squares_of(readings), penalty, times)
 }
 
-#[unsafe(no_mangle)]
-pub extern "C" fn squares_by_count(readings: &[u8], count: u16, times: u32) -> u64 {
+pub fn squares_by_count(readings: &[u8], count: u16, times: u32) -> u64 {
     by_count(&squares_of(readings), count, times)
 }
 
-#[unsafe(no_mangle)]
-pub extern "C" fn squares_path(readings: &[u8], times: u32) -> u64 {
+pub fn squares_path(readings: &[u8], times: u32) -> u64 {
     path_of(&squares_of(readings), times)
 }
 
-#[unsafe(no_mangle)]
-pub extern "C" fn pair_by_penalty(readings: &[u8], penalty: u64, times: u32) -> u64 {
+pub fn pair_by_penalty(readings: &[u8], penalty: u64, times: u32) -> u64 {
     by_penalty(&pair_of(readings), penalty, times)
 }
 
-#[unsafe(no_mangle)]
-pub extern "C" fn pair_by_count(readings: &[u8], count: u16, times: u32) -> u64 {
+pub fn pair_by_count(readings: &[u8], count: u16, times: u32) -> u64 {
     by_count(&pair_of(readings), count, times)
 }
 
-#[unsafe(no_mangle)]
-pub extern "C" fn pair_path(readings: &[u8], times: u32) -> u64 {
+pub fn pair_path(readings: &[u8], times: u32) -> u64 {
     path_of(&pair_of(readings), times)
 }

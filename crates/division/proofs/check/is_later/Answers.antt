@@ -1,4 +1,4 @@
-use Rattle.std.proofs.Common.{◌≡◌, ◌+◌, ◌-◌, ◌<◌, length, drop, arith}
+use Rattle.std.proofs.Common.{◌≡◌, ◌+◌, ◌-◌, arith}
 use Rattle.division.proofs.Walked.{later_by_length, later_by_place, later_none, alike_more, alike_none}
 use Rattle.division.proofs.check.is_later.Goals as goal
 

@@ -1,4 +1,4 @@
-use Rattle.std.proofs.Common.{◌≡◌, ◌+◌, true, false, leb, get_or, sym, ◌∙◌}
+use Rattle.std.proofs.Common.{◌+◌, leb, sym, ◌∙◌}
 use Rattle.std.proofs.lemmas.List.{at_drop_all}
 use Rattle.division.specs.Division.{each_stretch}
 use Rattle.division.proofs.Walked.{stretch_passes, stretch_fails}

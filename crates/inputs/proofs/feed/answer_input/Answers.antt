@@ -1,5 +1,5 @@
 use Rattle.std.proofs.Common.{◌≡◌, ℕ, List, [], vec_items, fold, refl, ap, ◌∙◌}
-use Rattle.inputs.specs.Reading.{Read, front_of, read_by, begun, next, closed}
+use Rattle.inputs.specs.Reading.{Read, front_of, begun, next, closed}
 use Rattle.inputs.proofs.Lined.{whole_input}
 use Rattle.inputs.proofs.feed.answer_input.Goals as goal
 

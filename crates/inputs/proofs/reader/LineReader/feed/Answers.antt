@@ -1,7 +1,7 @@
 use Rattle.std.proofs.Common.{get_or, vec_items, fold, sym, ap, ◌∙◌}
 use Rattle.std.proofs.lemmas.List.{take_all}
 use Rattle.std.proofs.lemmas.List.Sums.{fold_more}
-use Rattle.inputs.specs.Reading.{Read, read_by, next}
+use Rattle.inputs.specs.Reading.{read_by, next}
 use Rattle.inputs.proofs.reader.LineReader.feed.Goals as goal
 
 pub loop-byte-preserved : goal.loop-byte-preserved
