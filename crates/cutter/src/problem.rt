@@ -1,4 +1,5 @@
 // What keeps a command from being carried out: a refusal, after which the program goes on, or the end of memory or of the output.
+use anyhow::anyhow;
 use fault::{Failure, Fault};
 use std::io;
 
@@ -18,7 +19,7 @@ impl From<Failure> for Problem {
     fn from(failure: Failure) -> Problem {
         match failure {
             Failure::Refused(fault) => Problem::Refused(fault),
-            Failure::OutOfMemory => Problem::Fatal("out of memory".into()),
+            Failure::OutOfMemory => Problem::Fatal(anyhow!("out of memory")),
         }
     }
 }
