@@ -207,15 +207,15 @@ def listed(lines):
 
 def table():
     out = ["// Runs of calls with what they must end in, as tools/runs.py prints them: change them there."]
-    out += ["use crate::running::ALL;", "use crate::running::run;", "use division::mark::Mark;", "use envelope::Step;", "use fault::Fault;"]
-    out += ["use line::Criterion;", "use runs::model::Answer;", "use runs::model::Call;", "use runs::model::Lent;", "use std::test::*;"]
+    out += ["use crate::running::{ALL, run};", "use division::mark::Mark;", "use envelope::Step;", "use fault::Fault;"]
+    out += ["use line::Criterion;", "use runs::model::{Answer, Call, Lent};", "use std::test::Fail;"]
     for name, (readings, calls) in RUNS.items():
         line = Line(readings)
         replies, cuts = [], 0
         for call in calls:
             replies.append(line.reply(call))
             cuts += line.cut and line.boundaries != []
-        out += ["", "#[test]", f"fn {name}() -> Result<(), Fail> {{", "    run("]
+        out += ["", "#[test]", f"fn {name}(rt: HostRuntime) -> Result<(), Fail> {{", "    run(", "        &rt,"]
         out += ["        &[" + ", ".join(map(str, readings)) + "],"]
         out += listed([x for call in calls for x in shown(call)])
         out += listed([reply + "," for reply in replies])

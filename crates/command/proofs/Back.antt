@@ -1,5 +1,5 @@
 -- Every command is read as it was written.
-use Rattle.std.proofs.Common.{◌≡◌, ℕ, suc, ◌+◌, ◌-◌, ◌^◌, ◌<◌, ◌≤◌, min, Bool, true, false, ◌&&◌, eqb, ltb, leb, List, [], ◌∷◌, ◌++◌, map, length, ℤ, pos, negsuc, neg_ℤ, Some, None, Ok, Err, codes, decimal as digits_of, Option, sym, refl, ap, ◌∙◌, ap₂, inl, inr, arith, lit<}
+use Rattle.std.proofs.Common.{◌≡◌, ℕ, suc, ◌-◌, ◌^◌, ◌<◌, ◌≤◌, min, Bool, true, false, ◌&&◌, eqb, ltb, leb, List, [], ◌∷◌, ◌++◌, map, length, ℤ, pos, negsuc, neg_ℤ, Some, Ok, codes, decimal as digits_of, refl, ap, ◌∙◌, inl, inr, arith, lit<}
 use lib.Signed.{mag}
 use Rattle.std.specs.Int.{saturate_to_bits}
 use Rattle.std.specs.Option.{option_map}
@@ -10,10 +10,10 @@ use Rattle.std.proofs.lemmas.Bool.Decides.{nat_tests}
 use Rattle.leaves.specs.declared.kind.LossKind.TheVariants.{Squares, Distances, Votes}
 use Rattle.command.specs.Words.{blank, legible, all_legible, words}
 use Rattle.command.specs.Numbers.{decimal, natural, integer, reading}
-use Rattle.command.specs.Said.{Said, nothing, help, loss, readings, mark, unmark, shortest, price, best_by_penalty, best_by_count, path}
+use Rattle.command.specs.Said.{nothing, help, loss, readings, mark, unmark, shortest, price, best_by_penalty, best_by_count, path}
 use Rattle.command.specs.Line.{and_then, number, read_all, read_words, read_line}
-use Rattle.command.specs.Theorems.{spaced, written, InRange, CommandsStand}
-use Rattle.command.proofs.Printed.{Printable, Writes, printed_writes}
+use Rattle.command.specs.Theorems.{spaced, written, CommandsStand}
+use Rattle.command.proofs.Printed.{Printable, printed_writes}
 use Rattle.command.proofs.Spaced.{words_stand}
 
 -- a word of printable characters

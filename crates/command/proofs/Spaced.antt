@@ -1,7 +1,7 @@
 -- Words with one space between neighbours, and what is read of them.
-use Rattle.std.proofs.Common.{◌≡◌, ℕ, ◌<◌, ◌≤◌, Bool, true, false, cond, List, [], ◌∷◌, ◌++◌, length, sym, refl, ap, ◌∙◌, ap₂, arith}
+use Rattle.std.proofs.Common.{◌≡◌, ℕ, true, false, List, [], ◌∷◌, ◌++◌, refl, ap, ◌∙◌, ap₂, arith}
 use Rattle.std.specs.List.{AllByRecursion as All}
-use Rattle.command.specs.Words.{blank, all_legible, word, words_after, words}
+use Rattle.command.specs.Words.{blank, word, words_after, words}
 use Rattle.command.specs.Theorems.{spaced, WordsStand}
 
 -- no byte is a blank

@@ -1,5 +1,5 @@
 -- What the definitions mean: the theorems that the crate's contracts name.
-use Rattle.std.specs.Prelude.{◌≡◌, ℕ, ◌^◌, ◌<◌, ◌≤◌, false, List, [], ◌∷◌, ◌++◌, map, length, ℤ, Some, Ok, codes, decimal as digits_of}
+use Rattle.std.specs.Prelude.{◌≡◌, ℕ, ◌^◌, ◌<◌, ◌≤◌, false, List, [], ◌∷◌, ◌++◌, map, length, Some, Ok, codes, decimal as digits_of}
 use Rattle.std.specs.Int.Signed.{mag}
 use Rattle.std.specs.Fmt.{signed_decimal as signed-digits-of}
 use Rattle.std.specs.List.{AllByRecursion as All}

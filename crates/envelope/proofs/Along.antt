@@ -1,8 +1,8 @@
 -- Along the penalties, from step to step.
-use Rattle.std.proofs.Common.{◌≡◌, ℕ, zero, suc, ◌+◌, ◌*◌, ◌<◌, ◌≤◌, Bool, true, false, cond, eqb, ltb, leb, ◌≢◌, ◌⊎◌, List, [], ◌∷◌, ◌++◌, Some, None, Option, sym, refl, ap, ◌∙◌, subst, ap₂, inl, inr, append_assoc, append-nil, arith}
-use Rattle.std.proofs.lemmas.Bool.{cases_order, cases_lt, eq-eqb, ne_eqb, cond-true, cond-false}
+use Rattle.std.proofs.Common.{◌≡◌, ℕ, zero, suc, ◌<◌, ◌≤◌, eqb, ◌≢◌, ◌⊎◌, [], ◌∷◌, ◌++◌, Some, None, Option, sym, refl, ap, ◌∙◌, ap₂, inl, inr, append-nil, arith}
+use Rattle.std.proofs.lemmas.Bool.{cases_order, eq-eqb, ne_eqb, cond-true, cond-false}
 use Rattle.envelope.specs.declared.Step.{Step}
-use Rattle.envelope.specs.Path.{path_at, begun_at, begins_at, steps_below, Cheapest}
+use Rattle.envelope.specs.Path.{path_at, begun_at, begins_at, steps_below}
 use Rattle.envelope.specs.Next.{Holds}
 use Rattle.envelope.proofs.Named.{path_names_cheapest}
 

@@ -1,9 +1,9 @@
 -- Counts fall along the path, and each step begins_at where its count first wins.
-use Rattle.std.proofs.Common.{◌≡◌, ℕ, zero, suc, ◌+◌, ◌<◌, ◌≤◌, Bool, true, false, cond, eqb, ◌⊎◌, List, [], ◌∷◌, ◌++◌, Some, None, Option, sym, refl, ap, ◌∙◌, subst, ap₂, inl, inr, arith}
+use Rattle.std.proofs.Common.{◌≡◌, ℕ, zero, suc, ◌+◌, ◌<◌, ◌≤◌, Bool, true, false, cond, eqb, ◌⊎◌, List, [], ◌∷◌, ◌++◌, Some, None, Option, sym, refl, ap, subst, ap₂, inl, inr, arith}
 use Rattle.std.specs.List.{AllByRecursion as All}
 use Rattle.std.proofs.lemmas.Bool.{cases_lt, cases_eq, eqb-false}
 use Rattle.envelope.specs.declared.Step.{Step}
-use Rattle.envelope.specs.Path.{cost_of, better_count, path_at, begun_at, begins_at, steps_below, path_steps, Cheapest, largest_penalty}
+use Rattle.envelope.specs.Path.{better_count, path_at, begun_at, begins_at, steps_below, Cheapest, largest_penalty}
 use Rattle.envelope.specs.Theorems.{CountsFall, Begins, StepsBegin, OnlyCountsBelow}
 use Rattle.envelope.proofs.Named.{path_names_cheapest}
 use Rattle.envelope.proofs.Prices.{later_cost_of}

@@ -1,8 +1,8 @@
 -- The path is one list alone, the steps that open.
-use Rattle.std.proofs.Common.{◌≡◌, ℕ, zero, suc, ◌+◌, ◌*◌, ◌<◌, ◌≤◌, Bool, true, false, cond, eqb, ltb, leb, ◌≢◌, ◌⊎◌, ◌↔◌, List, [], ◌∷◌, ◌++◌, Some, None, Option, sym, refl, ap, ◌∙◌, subst, ap₂, inl, inr, append_assoc, append-nil, arith}
-use Rattle.std.proofs.lemmas.Bool.{cases_order, cases_lt, cases_eq, eq-eqb, ne_eqb, cond-true, cond-false, le-leb, lt-leb}
+use Rattle.std.proofs.Common.{◌≡◌, ℕ, zero, suc, ◌+◌, ◌<◌, ◌≤◌, cond, eqb, leb, ◌≢◌, ◌⊎◌, List, [], ◌∷◌, ◌++◌, Some, None, Option, sym, refl, ap, ◌∙◌, subst, ap₂, inl, inr, append_assoc, arith}
+use Rattle.std.proofs.lemmas.Bool.{cases_lt, cases_eq, eq-eqb, ne_eqb, cond-true, cond-false, le-leb, lt-leb}
 use Rattle.envelope.specs.declared.Step.{Step}
-use Rattle.envelope.specs.Path.{path_at, begun_at, begins_at, steps_below, path_steps, Cheapest, or_later, reached, read, Names, Rising, Canonical, Path, largest_penalty}
+use Rattle.envelope.specs.Path.{path_at, begun_at, begins_at, steps_below, path_steps, Cheapest, or_later, reached, read, Rising, Path, largest_penalty}
 use Rattle.envelope.specs.Next.{Holds}
 use Rattle.envelope.specs.Theorems.{OnePath}
 use Rattle.envelope.proofs.Named.{path_names_cheapest, clash, some_same, step_same}

@@ -1,9 +1,9 @@
 -- `path_at` gives the cheapest, and there is one alone.
-use Rattle.std.proofs.Common.{◌≡◌, ℕ, zero, suc, ◌+◌, ◌*◌, ◌<◌, ◌≤◌, Bool, true, false, cond, ltb, ◌⊎◌, ◌↔◌, Some, None, Option, sym, refl, ap, ◌∙◌, subst, inl, inr, arith}
+use Rattle.std.proofs.Common.{◌≡◌, ℕ, zero, suc, ◌<◌, ◌≤◌, Bool, true, false, cond, ltb, ◌⊎◌, Some, None, Option, sym, refl, ap, ◌∙◌, subst, inl, inr, arith}
 use Rattle.std.proofs.lemmas.Bool.{cases_order, cases_lt, ltb-true, ltb-false}
 use Rattle.envelope.specs.declared.Step.{Step}
 use Rattle.envelope.specs.Path.{cost_of, better_count, path_at, Cheapest}
-use Rattle.envelope.specs.Theorems.{NamesCheapest, PathNamesCheapest}
+use Rattle.envelope.specs.Theorems.{PathNamesCheapest}
 
 pub clash : {X : Type 0} {A : Type 0} (o : Option A) (x : A) → o ≡ Some x → o ≡ None → X
 clash o x e f = let z : ◌≡◌ {A = ℕ} 0 1 = cc in absurd (omega arith)

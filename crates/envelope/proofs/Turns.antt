@@ -1,10 +1,10 @@
 -- The loops' turns, and the step that comes next.
-use Rattle.std.proofs.Common.{◌≡◌, ℕ, zero, suc, ◌+◌, ◌-◌, ◌*◌, ◌<◌, ◌≤◌, min, Bool, true, false, cond, eqb, ◌⊎◌, List, length, get_or, Some, None, Option, sym, refl, ap, ◌∙◌, subst, inl, inr, arith}
-use Rattle.std.proofs.lemmas.Bool.{cases_lt, cases_order, cases_eq, eqb-false, ne_eqb, cond-false}
+use Rattle.std.proofs.Common.{◌≡◌, ℕ, suc, ◌-◌, ◌<◌, ◌≤◌, min, Bool, true, false, cond, eqb, ◌⊎◌, List, length, get_or, Some, None, Option, sym, refl, subst, inl, inr, arith}
+use Rattle.std.proofs.lemmas.Bool.{cases_lt, cases_eq, eqb-false, ne_eqb, cond-false}
 use Rattle.envelope.specs.declared.Step.{Step}
-use Rattle.envelope.specs.Path.{cost_of, better_count, present, path_at, Cheapest, losses_in, largest_penalty}
-use Rattle.envelope.specs.Next.{Holds, crossing, sooner, Overtakes, Overtaken, Follows, Next, FitLoss, Fit, Small}
-use Rattle.envelope.proofs.Named.{path_names_cheapest, clash, some_same, step_same}
+use Rattle.envelope.specs.Path.{cost_of, present, path_at, Cheapest, losses_in, largest_penalty}
+use Rattle.envelope.specs.Next.{Holds, crossing, sooner, Overtakes, Overtaken, Next, FitLoss, Fit, Small}
+use Rattle.envelope.proofs.Named.{path_names_cheapest, clash, some_same}
 use Rattle.envelope.proofs.Prices.{later_cost_of, dearer, up, up_small, crosses_at, crosses_not}
 
 present_small : (x y : ℕ) → FitLoss x → present x ≡ Some y → y ≤ largest_penalty

@@ -1,10 +1,10 @@
 -- What the walk has written so far.
-use Rattle.std.proofs.Common.{◌≡◌, ℕ, zero, suc, ◌+◌, ◌<◌, ◌≤◌, ◌≢◌, List, [], ◌∷◌, ◌++◌, length, drop, set, Some, None, Option, sym, refl, ap, ◌∙◌, subst, ap₂, arith, length-append, length-set, drop-set-lt}
+use Rattle.std.proofs.Common.{◌≡◌, ℕ, zero, suc, ◌+◌, ◌<◌, ◌≤◌, ◌≢◌, List, [], ◌∷◌, ◌++◌, length, drop, Some, None, sym, refl, ap, ◌∙◌, subst, arith, length-append, length-set, drop-set-lt}
 use Rattle.list.specs.declared.List.{List as Lent}
 use Rattle.list.specs.Entries.{entries, places}
 use Rattle.envelope.specs.declared.Step.{Step}
 use Rattle.envelope.specs.Path.{path_at, path_steps, steps_below, losses_in, largest_penalty, Cheapest}
-use Rattle.envelope.specs.Next.{Holds, Follows, Next, Added, Holding}
+use Rattle.envelope.specs.Next.{Follows, Next, Added, Holding}
 use Rattle.envelope.proofs.Named.{path_names_cheapest}
 use Rattle.envelope.proofs.Along.{still, onward, first}
 

@@ -5,7 +5,7 @@ use Rattle.list.specs.Entries.{entries, places}
 use Rattle.envelope.specs.declared.Step.{Step}
 use Rattle.fault.specs.declared.Fault.{Fault}
 use Rattle.fault.specs.declared.Fault.TheVariants.{NoAllowedDivision, ShortBuffer}
-use Rattle.envelope.specs.Path.{path_at, path_steps, cost_of, largest_penalty}
+use Rattle.envelope.specs.Path.{path_at, cost_of, largest_penalty}
 
 -- the step s holds from its penalty to just before `to`
 abbrev pub Holds : (ℕ → Option ℕ) → ℕ → Step → ℕ → Type 0

@@ -1,5 +1,4 @@
-use Rattle.std.proofs.Common.{◌≡◌, ℕ, suc, ◌+◌, ◌<◌, ◌≤◌, length, get_or, Option, sym, refl, ap, ◌∙◌, subst, add-one, arith}
-use Rattle.envelope.specs.declared.Step.{Step}
+use Rattle.std.proofs.Common.{◌≡◌, suc, ◌+◌, ◌<◌, ◌≤◌, length, get_or, sym, ap, ◌∙◌, subst, arith}
 use Rattle.envelope.specs.Path.{path_at, better_count, present, losses_in}
 use Rattle.envelope.specs.Next.{Small}
 use Rattle.envelope.proofs.Turns.{small_at}

@@ -1,4 +1,4 @@
-use Rattle.std.proofs.Common.{arith, rules}
+use Rattle.std.proofs.Common.{arith}
 use Rattle.envelope.proofs.Prices.{fits_cost_of}
 use Rattle.envelope.proofs.cost.Goals as goal
 

@@ -1,5 +1,5 @@
-use Rattle.std.proofs.Common.{◌≡◌, length, sym}
-use Rattle.envelope.specs.Path.{path_at, losses_in, Cheapest}
+use Rattle.std.proofs.Common.{length, sym}
+use Rattle.envelope.specs.Path.{losses_in}
 use Rattle.envelope.proofs.Named.{path_names_cheapest}
 use Rattle.envelope.proofs.Turns.{next_none, next_some}
 use Rattle.envelope.proofs.next_step.Goals as goal

@@ -1,6 +1,5 @@
-use Rattle.std.proofs.Common.{◌≡◌, ℕ, suc, ◌+◌, ◌<◌, ◌≤◌, ◌⊎◌, length, get_or, Option, sym, refl, ap, ◌∙◌, subst, subst₂, arith}
-use Rattle.envelope.specs.declared.Step.{Step}
-use Rattle.envelope.specs.Path.{path_at, present, losses_in, Cheapest}
+use Rattle.std.proofs.Common.{◌≡◌, ℕ, suc, ◌+◌, ◌<◌, length, get_or, Option, sym, refl, ap, ◌∙◌, subst, subst₂, arith}
+use Rattle.envelope.specs.Path.{present, losses_in, Cheapest}
 use Rattle.envelope.specs.Next.{Overtaken, crossing, sooner}
 use Rattle.envelope.proofs.Named.{path_names_cheapest}
 use Rattle.envelope.proofs.Turns.{over_more, dear_or_absent, small_loss}

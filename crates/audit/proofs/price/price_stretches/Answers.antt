@@ -1,4 +1,4 @@
-use Rattle.std.proofs.Common.{◌≡◌, ◌*◌, ◌^◌, ◌<◌, ◌≤◌, get_or, vec_items, sym, ap, ◌∙◌, mul-le-mul, arith}
+use Rattle.std.proofs.Common.{get_or, vec_items, arith}
 use Rattle.audit.proofs.Along.{again, ended, next_rises, next_within, last_rises, never_refused}
 use Rattle.audit.proofs.price.price_stretches.Goals as goal
 

@@ -1,4 +1,4 @@
-use Rattle.std.proofs.Common.{true, false, length, sym, ◌∙◌, arith}
+use Rattle.std.proofs.Common.{true, false, length, sym, arith}
 use Rattle.std.proofs.lemmas.List.Sums.{prefix_len-le-length}
 use Rattle.std.proofs.lemmas.Bool.{eqb-true, eqb-false}
 use Rattle.command.specs.Words.{of_kind}
