@@ -1,5 +1,5 @@
 -- A division as the starts of its stretches, the last first, and starts as a division.
-use Rattle.std.proofs.Common.{◌≡◌, ℕ, zero, suc, ◌+◌, ◌-◌, ◌*◌, ◌<◌, ◌≤◌, ◌⊎◌, List, [], ◌∷◌, length, sym, refl, ap, ◌∙◌, subst, inl, inr, arith}
+use Rattle.std.proofs.Common.{◌≡◌, ℕ, ◌+◌, ◌-◌, ◌<◌, ◌≤◌, List, [], ◌∷◌, length, sym, refl, ap, subst, inl, inr, arith}
 use Rattle.division.specs.Division.{EachStretch}
 use Rattle.division.specs.Order.{Later}
 use Rattle.search.specs.Starts.{Starts, NoLater, Falling, any_number, exactly, boundaries_of}

@@ -1,5 +1,5 @@
 -- The boundaries of the starts that win are the winner.
-use Rattle.std.proofs.Common.{◌≡◌, ℕ, suc, ◌+◌, ◌<◌, ◌≤◌, true, false, ltb, ◌⊎◌, List, [], ◌∷◌, length, Some, None, Option, sym, refl, ap, ◌∙◌, subst, ap₂, inl, inr, arith}
+use Rattle.std.proofs.Common.{◌≡◌, ℕ, ◌+◌, ◌<◌, true, false, ltb, List, [], ◌∷◌, length, Some, None, Option, sym, ap, ◌∙◌, subst, ap₂, inl, inr, arith}
 use native.Mathlib.Decide.{dec_lt}
 use Rattle.std.specs.List.{AllByRecursion as All}
 use Rattle.std.proofs.lemmas.Bool.Decides.{nat_tests}
@@ -8,7 +8,7 @@ use Rattle.std.specs.Option.{option_map}
 use Rattle.division.specs.declared.mark.Mark.{Mark}
 use Rattle.division.specs.Division.{EachStretch, Division, loss}
 use Rattle.division.specs.Stretches.{WellFormed, Permitted}
-use Rattle.division.specs.Winner.{Criterion, by_penalty, by_count, Candidate, total, winner, Wins}
+use Rattle.division.specs.Winner.{by_penalty, by_count, Candidate, total, winner, Wins}
 use Rattle.division.proofs.Best.{winner_is_best, candidate_divides}
 use Rattle.division.proofs.ByStretch.{allowed_by_stretch, each_map}
 use Rattle.tally.specs.Entries.{pair_below}

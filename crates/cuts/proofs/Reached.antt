@@ -1,8 +1,8 @@
 -- What a search that was not refused has found is the winner, with its total, and there is room for it.
-use Rattle.std.proofs.Common.{◌≡◌, ℕ, ◌+◌, ◌-◌, ◌*◌, ◌^◌, ◌<◌, ◌≤◌, List, length, Some, None, Option, subst, arith}
+use Rattle.std.proofs.Common.{◌≡◌, ℕ, ◌+◌, ◌-◌, ◌*◌, ◌^◌, ◌≤◌, List, length, Some, None, Option, subst, arith}
 use Rattle.loss.specs.Table.{Table}
 use Rattle.division.specs.Stretches.{Permitted}
-use Rattle.division.specs.Winner.{Criterion, by_penalty, by_count, winner, total}
+use Rattle.division.specs.Winner.{by_penalty, by_count, winner, total}
 use Rattle.marks.specs.declared.table.MarkTable.{MarkTable}
 use Rattle.marks.specs.Table.{marks_of}
 use Rattle.search.specs.Starts.{any_number, exactly}
@@ -10,7 +10,7 @@ use Rattle.search.specs.Rows.{Found, part}
 use Rattle.cuts.specs.Outcome.{penalty_refusal, count_refusal}
 use Rattle.cuts.proofs.Tallied.{total_tally, loss_tally}
 use Rattle.cuts.proofs.Joined.{penalty_none, penalty_some, count_none, count_some}
-use Rattle.cuts.proofs.Ready.{Ready, ready_by_penalty, ready_by_count, table_formed}
+use Rattle.cuts.proofs.Ready.{ready_by_penalty, ready_by_count, table_formed}
 
 -- the list d is the winner, of the total t
 pub record Reached (w : Option (List ℕ)) (cost : List ℕ → ℕ) (trace places from end t : ℕ) (d : List ℕ) : Type 0 where

@@ -4,7 +4,7 @@ use Rattle.list.specs.declared.List.{List}
 use Rattle.list.specs.Entries.{entries, places}
 use Rattle.fault.specs.declared.Fault.{Fault}
 use Rattle.fault.specs.declared.Fault.TheVariants.{NoAllowedDivision}
-use Rattle.cuts.specs.Outcome.{outcome, entries_after, places_after, Cut}
+use Rattle.cuts.specs.Outcome.{Cut}
 
 none_some : {A : Type 0} (f : Fault) → ◌≡◌ {A = Option Fault} None (Some f) → A
 none_some f e = let z : ◌≡◌ {A = ℕ} 0 1 = cc in absurd (omega arith)

@@ -1,5 +1,5 @@
 -- What refuses a cut, and what a cut answers and does, from the refusal and the winner.
-use Rattle.std.specs.Prelude.{◌≡◌, ℕ, ◌+◌, ◌-◌, ◌*◌, ◌^◌, ◌≤◌, Bool, cond, ◌&&◌, List as Seq, ◌++◌, length, drop, IfOk, Some, None, Ok, Err, Option, Result, ◌==◌, nat_le, nat_lt}
+use Rattle.std.specs.Prelude.{◌≡◌, ℕ, ◌+◌, ◌-◌, ◌*◌, ◌^◌, ◌≤◌, Bool, cond, List as Seq, ◌++◌, length, drop, IfOk, Some, None, Ok, Err, Option, Result, ◌==◌, nat_le, nat_lt}
 use Rattle.list.specs.declared.List.{List}
 use Rattle.list.specs.Entries.{entries, places}
 use Rattle.fault.specs.declared.Fault.{Fault}

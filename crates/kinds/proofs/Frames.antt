@@ -11,7 +11,7 @@ use Rattle.leaves.proofs.Admission.{between_tells}
 use Rattle.frames.specs.declared.size.ReadingSize.TheVariants.{Three}
 use Rattle.frames.specs.declared.reading.PairReading.{PairReading}
 use Rattle.frames.specs.Readings.{readings_in, pairs_in}
-use Rattle.kinds.specs.Sides.{Sides, port_of, code_of, brought, codes_fit, room_for, taken, together, after}
+use Rattle.kinds.specs.Sides.{Sides, port_of, code_of, brought, codes_fit, taken, together, after}
 
 -- how many readings bytes hold
 pub halves : (bytes : List ℕ) → length (readings_in bytes) ≡ length bytes / 2

@@ -5,7 +5,7 @@ use Rattle.leaves.specs.Taking.{all_between}
 use Rattle.frames.specs.declared.size.ReadingSize.{ReadingSize}
 use Rattle.frames.specs.declared.size.ReadingSize.TheVariants.{Two, Three}
 use Rattle.frames.specs.Size.{bytes_each}
-use Rattle.kinds.specs.Sides.{Sides, brought}
+use Rattle.kinds.specs.Sides.{brought}
 
 -- A reading of port is always in range, so that only a code can be refused for its range. There are as many as the bytes have whole readings, and as many codes
 -- where a reading has one.

@@ -1,20 +1,19 @@
 -- The winner solves the problem.
-use Rattle.std.proofs.Common.{◌≡◌, ℕ, zero, suc, ◌+◌, ◌-◌, ◌*◌, ◌<◌, ◌≤◌, ◌⊎◌, List, [], ◌∷◌, ◌++◌, length, get_or, take, drop, replicate, ℤ, pos, ◌-ℤ◌, nat_abs, Some, None, sym, refl, ap, ◌∙◌, subst, ap₂, inl, inr, add-zero, add_assoc, zero-add, zero-mul, arith}
+use Rattle.std.proofs.Common.{◌≡◌, ℕ, zero, suc, ◌+◌, ◌-◌, ◌*◌, ◌<◌, ◌≤◌, ◌⊎◌, List, [], ◌∷◌, ◌++◌, length, get_or, take, drop, replicate, ℤ, pos, ◌-ℤ◌, nat_abs, Some, sym, refl, ap, ◌∙◌, subst, ap₂, inl, inr, add-zero, add_assoc, zero-add, arith}
 use Rattle.std.proofs.lemmas.List.{take_rest, drop-drop, length-take, length-drop, length-append, length-replicate, get_or-take, get_or-drop, get_or-replicate, get_or_append_left, get_or-append_right, take_at, drop_at}
-use Rattle.std.proofs.lemmas.Bool.{cases_lt, cases_order}
+use Rattle.std.proofs.lemmas.Bool.{cases_order}
 use Rattle.std.specs.List.{AllByRecursion as All}
 use Rattle.std.proofs.ByRecursion.{All-append, All-take, All-drop}
-use Rattle.loss.specs.Table.{Table}
 use Rattle.leaves.specs.Readings.{cost_at, least_of, Rising, Between, stretch_of, loss_of, table_of}
 use Rattle.leaves.specs.LeastLevel.{least_of_all, reached_between}
 use Rattle.division.specs.declared.mark.Mark.{Mark}
 use Rattle.division.specs.Division.{Division, EachStretch, sum_stretches, loss}
 use Rattle.division.specs.Theorems.{In}
-use Rattle.division.specs.Winner.{Criterion, by_penalty, by_count, Candidate, total, winner, Wins}
+use Rattle.division.specs.Winner.{Criterion, by_penalty, by_count, total, winner, Wins}
 use Rattle.division.proofs.Listed.{below}
 use Rattle.division.proofs.Best.{winner_wins, winner_costs_least, candidate_divides}
 use Rattle.division.proofs.ByStretch.{each_map}
-use Rattle.labeled.specs.Problem.{LevelRow, row_cost, choice_cost, Solves, KeptBetween, WinnerSolves, WinnerKeptBetween, NoWinnerNoChoice, SolvedBy, RowSplits, OneLevel}
+use Rattle.labeled.specs.Problem.{LevelRow, row_cost, choice_cost, WinnerSolves, WinnerKeptBetween, NoWinnerNoChoice, SolvedBy, RowSplits, OneLevel}
 
 cost_split : (g : ℕ → ℕ) (k : ℕ) (xs ms : List ℤ) → row_cost g xs ms ≡ row_cost g (take k xs) (take k ms) + row_cost g (drop k xs) (drop k ms)
 cost_split g zero xs ms = sym (zero-add (row_cost g xs ms))

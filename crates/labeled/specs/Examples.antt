@@ -1,5 +1,5 @@
 -- The worked examples, as one statement over the rules that the check computes.
-use Rattle.std.specs.Prelude.{◌≡◌, ℕ, List, [], ◌∷◌, map, ℤ, pos, negsuc, Some, None, Option}
+use Rattle.std.specs.Prelude.{◌≡◌, ℕ, List, [], ◌∷◌, map, ℤ, pos, negsuc, Some, None}
 use Rattle.leaves.specs.Readings.{loss_of, square, distance, differs}
 use Rattle.division.specs.declared.mark.Mark.{Mark}
 use Rattle.division.specs.Winner.{by_penalty, by_count, total, winner}

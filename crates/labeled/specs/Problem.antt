@@ -1,7 +1,7 @@
 -- The labeled optimal partitioning problem: gaps are chosen and each reading is given a whole level. The levels change only at chosen
 -- gaps, and the marks say how many gaps are chosen where. A choice costs the price of each reading's distance from its level, and
 -- by penalty the penalty for each chosen gap.
-use Rattle.std.specs.Prelude.{◌≡◌, ℕ, suc, ◌+◌, ◌*◌, ◌<◌, ◌≤◌, List, [], ◌∷◌, length, ℤ, pos, ◌-ℤ◌, Some, None, Option, slice_index_or, unsigned_abs}
+use Rattle.std.specs.Prelude.{◌≡◌, ℕ, suc, ◌+◌, ◌*◌, ◌<◌, ◌≤◌, List, [], ◌∷◌, length, ℤ, pos, ◌-ℤ◌, Some, None, slice_index_or, unsigned_abs}
 use Rattle.std.specs.List.{AllByRecursion as All}
 use Rattle.loss.specs.Table.{Table}
 use Rattle.leaves.specs.Readings.{cost_at, Rising, Between, stretch_of, loss_of}

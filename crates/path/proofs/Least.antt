@@ -1,12 +1,12 @@
 -- The numbers that the search leaves are the least losses by count, and fit the steps.
-use Rattle.std.proofs.Common.{◌≡◌, ℕ, ◌+◌, ◌-◌, ◌*◌, ◌^◌, ◌<◌, ◌≤◌, cond, eqb, ◌⊎◌, List, [], ◌∷◌, length, get_or, take, drop, Some, None, Option, sym, refl, ap, ◌∙◌, subst, inl, inr, mul-le-mul_left, arith}
+use Rattle.std.proofs.Common.{◌≡◌, ℕ, ◌+◌, ◌-◌, ◌*◌, ◌^◌, ◌<◌, ◌≤◌, List, [], ◌∷◌, length, get_or, take, drop, Some, None, Option, sym, refl, ap, ◌∙◌, inl, inr, arith}
 use Rattle.std.specs.Option.{option_map}
 use Rattle.std.proofs.lemmas.List.{length-take, length-drop, get_or-take, get_or-drop}
 use Rattle.std.proofs.lemmas.Bool.Decides.{eqb_tells}
 use Rattle.loss.specs.Table.{Table, Sound}
 use Rattle.loss.proofs.Bounds.{stretch_bound}
 use Rattle.division.specs.declared.mark.Mark.{Mark}
-use Rattle.division.specs.Division.{EachStretch, Division, sum_stretches, loss}
+use Rattle.division.specs.Division.{EachStretch, sum_stretches, loss}
 use Rattle.division.specs.Winner.{by_count, total, winner}
 use Rattle.division.proofs.Best.{winner_wins, candidate_divides}
 use Rattle.division.proofs.Listed.{below}

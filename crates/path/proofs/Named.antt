@@ -1,5 +1,5 @@
 -- The winner at a penalty is the winner of its count, and its count is the path's.
-use Rattle.std.proofs.Common.{◌≡◌, ℕ, ◌+◌, ◌*◌, ◌<◌, ◌≤◌, ◌⊎◌, List, [], ◌∷◌, length, Some, None, Option, sym, refl, ap, ◌∙◌, subst, inl, inr, arith}
+use Rattle.std.proofs.Common.{◌≡◌, ℕ, ◌*◌, ◌<◌, ◌≤◌, ◌⊎◌, List, length, Some, None, Option, sym, refl, ap, ◌∙◌, inl, inr, arith}
 use Rattle.std.proofs.lemmas.Bool.{cases_order}
 use Rattle.division.specs.declared.mark.Mark.{Mark}
 use Rattle.division.specs.Division.{loss}
@@ -9,7 +9,6 @@ use Rattle.division.specs.Winner.{by_penalty, by_count, Candidate, total, winner
 use Rattle.division.proofs.Best.{winner_wins, winner_costs_least}
 use Rattle.division.proofs.Listed.{few_boundaries}
 use Rattle.division.proofs.Order.{later_short}
-use Rattle.envelope.specs.declared.Step.{Step}
 use Rattle.envelope.specs.Path.{path_at, path_steps, Cheapest, cost_of}
 use Rattle.envelope.proofs.Named.{path_names_cheapest, clash}
 use Rattle.envelope.proofs.Chains.{one_path}

@@ -1,8 +1,8 @@
 -- Filling rows: an entry stays right while the trace behind it stays, and what the search picks makes the next one.
-use Rattle.std.proofs.Common.{◌≡◌, ℕ, ◌+◌, ◌-◌, ◌<◌, ◌≤◌, Bool, true, false, ◌⊎◌, List, [], ◌∷◌, length, get_or, set, IfSome, Some, None, Option, sym, refl, ap, ◌∙◌, subst, inl, inr, arith, get_or-set_other, get_or-set_same}
+use Rattle.std.proofs.Common.{◌≡◌, ℕ, ◌+◌, ◌-◌, ◌<◌, ◌≤◌, ◌⊎◌, List, [], ◌∷◌, length, get_or, set, IfSome, Some, None, Option, sym, refl, ap, ◌∙◌, subst, inl, inr, arith, get_or-set_other, get_or-set_same}
 use native.Mathlib.Decide.{dec_lt}
 use Rattle.tally.specs.Order.{Tallying, Order, Weak}
-use Rattle.search.specs.Starts.{Stages, Starts, Best, any_number, exactly}
+use Rattle.search.specs.Starts.{Stages, Starts, any_number, exactly}
 use Rattle.search.specs.Rows.{Picked, Entry, Least, Extended, Traced, Row, NextRow, value_of, start_of}
 use Rattle.search.proofs.Optimal.{best_starts, keeps}
 

@@ -1,9 +1,9 @@
 -- One more start for the search over the starts.
-use Rattle.std.proofs.Common.{◌≡◌, ℕ, ◌+◌, ◌<◌, ◌≤◌, Bool, true, false, cond, ◌⊎◌, List, [], ◌∷◌, IfSome, Some, None, Option, sym, refl, ap, ◌∙◌, subst, inl, inr, arith}
-use native.Mathlib.Decide.{dec_lt, dec_le}
+use Rattle.std.proofs.Common.{◌≡◌, ℕ, ◌+◌, ◌<◌, ◌≤◌, Bool, true, false, cond, ◌⊎◌, IfSome, Some, None, Option, sym, refl, ap, ◌∙◌, subst, inl, inr, arith}
+use native.Mathlib.Decide.{dec_lt}
 use Rattle.tally.specs.Order.{Tallying, Order}
 use Rattle.search.specs.Rows.{Picked, smaller}
-use Rattle.search.proofs.Optimal.{clash, tell, asym, no_less}
+use Rattle.search.proofs.Optimal.{asym, no_less}
 
 -- b is below i, or is i
 last : (b i : ℕ) → b < i + 1 → (b < i) ⊎ (b ≡ i)

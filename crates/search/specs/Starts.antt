@@ -1,5 +1,5 @@
 -- The stretches from 0 to an end t, given by their starts, the last first: what they tally, and the best of them.
-use Rattle.std.specs.Prelude.{◌≡◌, ℕ, ◌-◌, ◌<◌, ◌≤◌, Bool, false, ◌⊎◌, List, [], ◌∷◌}
+use Rattle.std.specs.Prelude.{◌≡◌, ℕ, ◌-◌, ◌<◌, ◌≤◌, false, ◌⊎◌, List, [], ◌∷◌}
 use Rattle.tally.specs.Order.{Tallying}
 
 -- Which stretches may follow one another. A stage says which lists of starts count: all of them, or those of so many stretches.

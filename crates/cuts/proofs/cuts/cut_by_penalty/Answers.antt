@@ -1,4 +1,4 @@
-use Rattle.std.proofs.Common.{◌≡◌, ℕ, ◌+◌, ◌*◌, List, ◌++◌, length, drop, None, ap, ◌∙◌, subst, arith}
+use Rattle.std.proofs.Common.{◌≡◌, ℕ, ◌+◌, List, ◌++◌, length, drop, None, ap, ◌∙◌, subst, arith}
 use Rattle.list.specs.Entries.{places}
 use Rattle.division.specs.Winner.{by_penalty, total}
 use Rattle.search.specs.Rows.{part}

@@ -1,5 +1,4 @@
-use Rattle.std.proofs.Common.{◌≡◌, ℕ, length, None, ap, subst, arith}
-use Rattle.list.specs.Entries.{places}
+use Rattle.std.proofs.Common.{◌≡◌, ℕ, length, None, subst, arith}
 use Rattle.loss.specs.Table.{Table}
 use Rattle.marks.specs.Table.{marks_of}
 use Rattle.path.specs.Outcome.{path_refusal}

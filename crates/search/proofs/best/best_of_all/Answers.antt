@@ -1,10 +1,10 @@
-use Rattle.std.proofs.Common.{◌≡◌, ℕ, ◌+◌, ◌-◌, ◌*◌, ◌<◌, ◌≤◌, List, length, get_or, Option, sym, refl, ap, ◌∙◌, subst, add-mul, mul-le-mul, mul-le-mul_left, one-mul, zero-add, arith, MatchOption}
-use Rattle.tally.specs.Order.{Tallying, tallying, Strict}
-use Rattle.search.specs.Starts.{any_number, exactly, Starts, Falling, boundaries_of}
-use Rattle.search.specs.Rows.{Traced, kept_start, start_at, row_before, part}
+use Rattle.std.proofs.Common.{◌≡◌, ℕ, ◌+◌, List, get_or, sym, refl, ap, ◌∙◌, arith}
+use Rattle.tally.specs.Order.{Tallying, tallying}
+use Rattle.search.specs.Starts.{any_number}
+use Rattle.search.specs.Rows.{Traced, start_at, row_before, part}
 use Rattle.constraints.specs.Ranges.{permitted}
 use Rattle.search.proofs.Picking.{fits_of}
-use Rattle.search.proofs.Tracing.{leads, found_some, one_row, by_rows}
+use Rattle.search.proofs.Tracing.{leads, found_some, one_row}
 use Rattle.search.proofs.best.best_of_all.Goals as goal
 
 pub read_back-from-requires : goal.read_back-from-requires

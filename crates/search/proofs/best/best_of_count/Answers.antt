@@ -1,10 +1,10 @@
-use Rattle.std.proofs.Common.{◌≡◌, ℕ, ◌+◌, ◌-◌, ◌*◌, ◌<◌, ◌≤◌, List, length, get_or, Option, sym, refl, ap, ◌∙◌, subst, add-mul, mul-le-mul, mul-le-mul_left, one-mul, zero-add, arith, MatchOption}
-use Rattle.tally.specs.Order.{Tallying, tallying, Strict}
-use Rattle.search.specs.Starts.{any_number, exactly, Starts, Falling, boundaries_of}
+use Rattle.std.proofs.Common.{◌≡◌, ℕ, ◌+◌, ◌-◌, ◌*◌, ◌<◌, ◌≤◌, List, sym, refl, ap, ◌∙◌, add-mul, mul-le-mul, mul-le-mul_left, one-mul, arith}
+use Rattle.tally.specs.Order.{Tallying, tallying}
+use Rattle.search.specs.Starts.{exactly}
 use Rattle.search.specs.Rows.{Traced, kept_start, start_at, row_before, part}
 use Rattle.constraints.specs.Ranges.{permitted}
 use Rattle.search.proofs.Picking.{fits_of}
-use Rattle.search.proofs.Tracing.{leads, found_some, one_row, by_rows}
+use Rattle.search.proofs.Tracing.{leads, found_some, by_rows}
 use Rattle.search.proofs.best.best_of_count.Goals as goal
 
 pub load-requires : goal.load-requires

@@ -1,9 +1,8 @@
-use Rattle.std.proofs.Common.{◌≡◌, ℕ, ◌+◌, ◌-◌, ◌*◌, ◌^◌, ◌<◌, ◌≤◌, ◌⊎◌, IfSome, Some, None, Ok, Err, Option, sym, refl, ap, ◌∙◌, subst, inl, inr, mul-le-mul_left, arith, rules}
-use Rattle.loss.specs.Table.{Table, Sound, answer}
+use Rattle.std.proofs.Common.{◌≡◌, ℕ, ◌+◌, ◌-◌, ◌*◌, ◌^◌, ◌<◌, ◌≤◌, IfSome, Some, Option, sym, ap, ◌∙◌, subst, mul-le-mul_left, arith}
+use Rattle.loss.specs.Table.{Table}
 use Rattle.tally.specs.Order.{Tallying, tallying}
 use Rattle.search.specs.Rows.{Picked, smaller}
 use Rattle.constraints.specs.Ranges.{permitted}
-use Rattle.search.specs.Usable.{Usable}
 use Rattle.search.proofs.Picking.{skips, takes, widens, fits_of, smaller_fits}
 use Rattle.search.proofs.Stretch.{lost_ok, lost_err, lost_little}
 use Rattle.search.proofs.rows.best_start.Goals as goal

@@ -1,4 +1,4 @@
-use Rattle.std.proofs.Common.{◌≡◌, ℕ, ◌+◌, ◌≤◌, true, IfSome}
+use Rattle.std.proofs.Common.{◌+◌, IfSome}
 use Rattle.tally.specs.Order.{tallying}
 use Rattle.search.specs.Rows.{Picked}
 use Rattle.constraints.specs.Ranges.{permitted}

@@ -1,8 +1,8 @@
-use Rattle.std.proofs.Common.{◌≡◌, ℕ, ◌+◌, ◌*◌, ◌^◌, ◌<◌, ◌≤◌, Bool, true, false, List, length, get_or, set, IfSome, Some, None, Option, sym, refl, ap, ◌∙◌, subst, mul-le-mul_left, zero-add, arith}
+use Rattle.std.proofs.Common.{◌≡◌, ℕ, ◌+◌, ◌≤◌, List, get_or, IfSome, Some, Option, sym, ap, ◌∙◌, subst, mul-le-mul_left, zero-add, arith}
 use mathlib.Core.Path.{fun_ext}
 use Rattle.tally.specs.Order.{Tallying, tallying}
 use Rattle.search.specs.Starts.{any_number}
-use Rattle.search.specs.Rows.{Picked, Row, value_of, start_of}
+use Rattle.search.specs.Rows.{Picked, Row}
 use Rattle.constraints.specs.Ranges.{permitted}
 use Rattle.search.proofs.Optimal.{weak}
 use Rattle.search.proofs.Filling.{any_first, any_next, fits_wider, fits_next}

@@ -1,4 +1,4 @@
-use Rattle.std.proofs.Common.{◌≡◌, ℕ, ◌+◌, ◌<◌, ◌≤◌, true, length, get_or, IfSome}
+use Rattle.std.proofs.Common.{ℕ, ◌<◌, get_or, IfSome}
 use Rattle.tally.specs.Order.{tallying}
 use Rattle.search.specs.Starts.{any_number}
 use Rattle.search.specs.Rows.{Row}

@@ -1,7 +1,7 @@
-use Rattle.std.proofs.Common.{◌≡◌, ℕ, ◌+◌, ◌-◌, ◌*◌, ◌^◌, ◌<◌, ◌≤◌, Bool, true, false, ◌⊎◌, List, length, get_or, set, Some, None, Option, sym, refl, ap, ◌∙◌, subst, inl, inr, mul-le-mul_right, add-mul, mul-le-mul, mul-le-mul_left, one-mul, zero-add, arith, MatchOption}
+use Rattle.std.proofs.Common.{◌≡◌, ℕ, ◌+◌, ◌-◌, ◌*◌, ◌<◌, ◌≤◌, length, get_or, Some, None, Option, refl, ap, ◌∙◌, subst, inl, mul-le-mul_right, add-mul, mul-le-mul, mul-le-mul_left, one-mul, zero-add, arith}
 use Rattle.tally.specs.Order.{Tallying, tallying}
 use Rattle.search.specs.Starts.{exactly}
-use Rattle.search.specs.Rows.{Row, NextRow, kept_start}
+use Rattle.search.specs.Rows.{Row, kept_start}
 use Rattle.constraints.specs.Ranges.{permitted}
 use Rattle.search.proofs.Optimal.{weak}
 use Rattle.search.proofs.Filling.{exactly_first, exactly_next, row_noted, first_fits, apart, swapped}

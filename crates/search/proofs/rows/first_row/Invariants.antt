@@ -1,4 +1,4 @@
-use Rattle.std.proofs.Common.{◌≡◌, ℕ, ◌+◌, ◌<◌, ◌≤◌, Some, None}
+use Rattle.std.proofs.Common.{◌≡◌, ℕ, ◌+◌, ◌<◌, Some, None}
 use Rattle.search.proofs.rows.first_row.Given as goal
 
 abbrev pub invariant-loop-end : goal.invariant-loop-end

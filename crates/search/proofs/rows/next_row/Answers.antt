@@ -1,6 +1,6 @@
-use Rattle.std.proofs.Common.{◌≡◌, ℕ, ◌+◌, ◌*◌, ◌^◌, ◌<◌, ◌≤◌, Bool, true, false, ◌⊎◌, List, length, get_or, set, IfSome, Some, None, Option, sym, refl, ap, ◌∙◌, subst, inl, inr, mul-le-mul_left, arith, get_or-set_other, get_or-set_same}
+use Rattle.std.proofs.Common.{◌≡◌, ℕ, ◌+◌, ◌<◌, ◌≤◌, ◌⊎◌, List, length, get_or, set, IfSome, Option, sym, refl, ap, ◌∙◌, subst, inl, inr, mul-le-mul_left, arith, get_or-set_other, get_or-set_same}
 use Rattle.tally.specs.Order.{Tallying, tallying}
-use Rattle.search.specs.Rows.{Picked, NextRow, value_of, start_of}
+use Rattle.search.specs.Rows.{start_of}
 use Rattle.constraints.specs.Ranges.{permitted}
 use Rattle.search.proofs.Filling.{entry_more, fits_wider}
 use Rattle.search.proofs.rows.next_row.Goals as goal

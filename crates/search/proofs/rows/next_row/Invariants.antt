@@ -1,4 +1,4 @@
-use Rattle.std.proofs.Common.{◌≡◌, ℕ, ◌+◌, ◌<◌, ◌≤◌, ◌⊎◌, length, get_or, MatchOption}
+use Rattle.std.proofs.Common.{◌≡◌, ℕ, ◌+◌, ◌<◌, ◌⊎◌, length, get_or}
 use Rattle.tally.specs.Order.{tallying}
 use Rattle.search.specs.Rows.{NextRow}
 use Rattle.constraints.specs.Ranges.{permitted}

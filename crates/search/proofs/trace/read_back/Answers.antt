@@ -1,4 +1,4 @@
-use Rattle.std.proofs.Common.{◌≡◌, ℕ, ◌+◌, ◌-◌, ◌<◌, ◌≤◌, List, [], ◌∷◌, length, get_or, set, sym, refl, ap, ◌∙◌, subst, arith, get_or-set_other}
+use Rattle.std.proofs.Common.{◌≡◌, ℕ, ◌+◌, ◌-◌, ◌<◌, List, [], ◌∷◌, length, get_or, sym, refl, ap, ◌∙◌, subst, arith, get_or-set_other}
 use Rattle.search.specs.Starts.{Falling, boundaries_of}
 use Rattle.search.specs.Rows.{Traced, row_before, start_at, part}
 use Rattle.search.proofs.Tracing.{traced_one, part_more, part_none, first_back, at_zero}

@@ -1,4 +1,4 @@
-use Rattle.std.proofs.Common.{◌≡◌, ℕ, ◌+◌, ◌-◌, ◌<◌, ◌≤◌, List, [], ◌∷◌, length, get_or, take}
+use Rattle.std.proofs.Common.{◌≡◌, ℕ, ◌+◌, ◌-◌, ◌<◌, ◌≤◌, List, [], ◌∷◌, get_or}
 use Rattle.search.specs.Starts.{Falling, boundaries_of}
 use Rattle.search.specs.Rows.{Traced, row_before, start_at, part}
 use Rattle.search.proofs.trace.read_back.Given as goal

@@ -1,7 +1,7 @@
-use Rattle.std.proofs.Common.{◌≡◌, ℕ, ◌+◌, ◌<◌, ◌≤◌, true, List, ◌++◌, length, sym, ap, ◌∙◌, arith}
+use Rattle.std.proofs.Common.{◌≡◌, ◌+◌, ◌<◌, ◌≤◌, length, sym, ap, ◌∙◌, arith}
 use Rattle.std.proofs.lemmas.List.{length-append}
 use Rattle.frames.specs.declared.size.ReadingSize.TheVariants.{Three}
-use Rattle.kinds.specs.Sides.{Sides, brought, codes_fit, together}
+use Rattle.kinds.specs.Sides.{Sides, brought, together}
 use Rattle.kinds.specs.Held.{both_sides}
 use Rattle.kinds.proofs.Frames.{ports, refused, all_taken, codes_tell, next_both, room_both, last_both}
 use Rattle.kinds.proofs.both_sides.PairReadingsFrameReadings.take.Goals as goal

@@ -6,7 +6,7 @@ use Rattle.leaves.specs.Taking.{taken as taken-one, after as after_one}
 use Rattle.leaves.specs.Held.{squares_readings}
 use Rattle.frames.specs.declared.size.ReadingSize.TheVariants.{Two}
 use Rattle.frames.specs.Readings.{readings_in}
-use Rattle.kinds.specs.Sides.{Sides, brought}
+use Rattle.kinds.specs.Sides.{brought}
 use Rattle.kinds.specs.Held.{port_alone}
 use Rattle.kinds.proofs.Frames.{halves, refused, all_taken, none_refused, room_left, next_port}
 use Rattle.kinds.proofs.one_side.SquaresFrameReadings.take.Goals as goal

@@ -1,4 +1,4 @@
-use Rattle.std.proofs.Common.{◌≡◌, List, [], ◌∷◌, ◌++◌, length, pos, ap, ◌∙◌, arith, w16, w32, SFits, to_z, of_z, rules}
+use Rattle.std.proofs.Common.{◌≡◌, [], ◌∷◌, length, pos, ap, ◌∙◌, arith, w16, w32, SFits, to_z, of_z, rules}
 use Rattle.std.proofs.lemmas.List.{length-append}
 use Rattle.std.proofs.lemmas.Int.{to_z-of_z}
 use Rattle.leaves.specs.Readings.{lowest}
