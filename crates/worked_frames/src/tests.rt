@@ -175,7 +175,7 @@ fn replies_are_printed(rt: HostRuntime) -> Result<(), Fail> {
 fn refusals_are_printed(rt: HostRuntime) -> Result<(), Fail> {
     let mut out = Vec::new(rt.alloc());
     put_refusal(&mut out, Fault::WrongState, 5)?;
-    assert!(rt; out.as_slice() == b"EE1D0005");
+    assert!(rt; out.as_slice() == b"EE1D0005".as_slice());
     Ok(())
 }
 
