@@ -15,6 +15,7 @@ pub record Walked (row : List ℕ) (o l : Lent Step) (s : Step) : Type 0 where
   pub some : 0 < length (entries l)
   pub room : length (entries l) + s.count ≤ length row
   pub long : length row ≤ length (places l)
+  pub as_many : length (places l) ≡ length (places o)
   pub past : drop (length (entries l)) (places l) ≡ drop (length (entries l)) (places o)
   pub lender : l.items.ghost_name ≡ o.items.ghost_name
 
@@ -38,6 +39,7 @@ begun row o l s e h z a =
       some = omega arith;
       room = omega arith;
       long = omega (arith, as_long o l s a);
+      as_many = refl;
       past = refl;
       lender = refl;
     }
@@ -56,6 +58,7 @@ again row o l l' s t w f a =
       some = omega arith;
       room = omega arith;
       long = omega (arith, as_long l l' t a, w.long);
+      as_many = as_long l l' t a ∙ w.as_many;
       past =
           ap (drop (length (entries l'))) a.places_are ∙ drop-set-lt (length (entries l')) (places l) (length (entries l)) t lt
           ∙ past_more (length (entries l)) (places l) (places o) w.past (length (entries l')) g;
@@ -85,3 +88,7 @@ ended row i o b l s t p m z a w h =
           (w.past ∙ ap (drop (length (entries l))) a.places_are ∙ drop-set-lt (length (entries l)) (places o) (length (entries o)) t lt ∙ ap (drop (length (entries l))) p);
       lender = w.lender ∙ a.lender ∙ m;
     }
+
+-- as many places at the end as at the beginning
+pub kept_long : (row : List ℕ) (i o b l : Lent Step) (s t : Step) → places o ≡ places i → Added o b t → Walked row b l s → length (places l) ≡ length (places i)
+kept_long row i o b l s t p a w = w.as_many ∙ as_long o b t a ∙ ap length p

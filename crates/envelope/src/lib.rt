@@ -125,7 +125,8 @@ fn write_steps(losses: &[u64], first: Step, list: &mut List<Step>)
     requires fit { Fit losses.now }
     requires first { path_at (losses_in losses.now) 0 (length losses.now) ≡ Some first }
     requires room { length losses.now ≤ length (places list.old) }
-    ensures { Holding (path_steps (losses_in losses.now) (length losses.now)) list.old list.new }
+    ensures holding { Holding (path_steps (losses_in losses.now) (length losses.now)) list.old list.new }
+    ensures room { length (places list.new) ≡ length (places list.old) }
 {
     list.clear();
     let mut at = first;
@@ -143,6 +144,7 @@ pub fn steps(losses: &[u64], list: &mut List<Step>) -> Result<(), Fault>
     ensures cases { MatchResult result
         (λ _. Holding (path_steps (losses_in losses.now) (length losses.now)) list.old list.new)
         (λ _. list.new ≡ list.old) }
+    ensures room { length (places list.new) ≡ length (places list.old) }
 {
     if list.capacity() < losses.len() {
         return Err(Fault::ShortBuffer);

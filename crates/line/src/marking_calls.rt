@@ -121,6 +121,7 @@ impl Marking {
             result steps.old steps.new numbers.old numbers.new }
         ensures same { self.new ≡ self.old }
         ensures lender { steps.new.items.ghost_name ≡ steps.old.items.ghost_name }
+        ensures room { length (places steps.new) ≡ length (places steps.old) }
     {
         path(loss, self.n, marks, self.shortest, numbers, steps)
     }

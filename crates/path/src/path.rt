@@ -38,6 +38,7 @@ pub fn path<L: Loss>(
         (L.table loss.now).loss (marks_of marks.now) shortest n
         result list.old list.new numbers.old numbers.new }
     ensures lender { list.new.items.ghost_name ≡ list.old.items.ghost_name }
+    ensures room { length (places list.new) ≡ length (places list.old) }
 {
     let room = list.capacity();
     check_path(loss, n, numbers.len(), room)?;

@@ -65,8 +65,8 @@ module _ (t : Table) (rm : Room) (l : Marking) (marks : List Mark) (bs : List �
       untouched_path _ _ r w.answer w.untouched
       (λ b. let P : Call → Type 0 = λ k. Searched k reply in idle (subst P (sym x) (subst begun (sym y) b)))
 
-  pub path_kept : new.items.ghost_name ≡ old.items.ghost_name → PastKept old new
-  path_kept e = record { past = w.past; slice = record { room = w.room; lender = e } }
+  pub path_kept : new.items.ghost_name ≡ old.items.ghost_name → length (places new) ≡ length (places old) → PastKept old new
+  path_kept e long = record { past = w.past; slice = record { room = long; lender = e } }
 
 -- what is told of a cut
 abbrev reply_of : Result Cut-line (Marking × Fault) → Result Answer Fault

@@ -28,7 +28,7 @@ pub within_path : (t : Table) (marks : List Mark) (m n u e : ℕ) (r : Result (U
 within_path t marks m n u e r old new numbers part h w =
     let P : ℕ → Type 0 = λ k. PathWritten (path_refusal t n k (length (places old))) t.loss marks m n r old new numbers (part ++ drop (e - 0) numbers) in
     subst P (part_length numbers u e h)
-    (record { answer = w.answer; listed = w.listed; names = w.names; past = w.past; room = w.room; kept = w.kept; untouched = λ x z. whole numbers part e (w.untouched x z) })
+    (record { answer = w.answer; listed = w.listed; names = w.names; past = w.past; kept = w.kept; untouched = λ x z. whole numbers part e (w.untouched x z) })
 
 module _ (c : Sought) (t : Table) (marks : List Mark) (l : Marking) (u v e f : ℕ) (places : ℕ) (numbers trace : List ℕ) (h : e ≡ min u (length numbers)) (k : f ≡ min v (length trace)) where
   abbrev refusal_at : ℕ → ℕ → Option Fault

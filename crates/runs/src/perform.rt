@@ -49,6 +49,7 @@ fn take_path<L: Loss>(
         result steps.old steps.new numbers.old numbers.new }
     ensures same { line.new ≡ line.old }
     ensures lender { steps.new.items.ghost_name ≡ steps.old.items.ghost_name }
+    ensures room { length (places steps.new) ≡ length (places steps.old) }
 {
     let end = lent.numbers.min(numbers.len());
     line.path(loss, marks, &mut numbers[0..end], steps)

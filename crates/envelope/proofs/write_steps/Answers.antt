@@ -1,5 +1,6 @@
-use Rattle.std.proofs.Common.{length, ap, arith}
-use Rattle.envelope.proofs.Written.{begun, again, ended}
+use Rattle.std.proofs.Common.{◌≡◌, ◌≤◌, length, sym, ap, subst, arith}
+use Rattle.list.specs.Entries.{places}
+use Rattle.envelope.proofs.Written.{begun, again, ended, kept_long}
 use Rattle.envelope.proofs.write_steps.Goals as goal
 
 pub loop-next-init : goal.loop-next-init
@@ -13,6 +14,11 @@ loop-next-preserved c =
     c.loop-next.invariant c.in-Some.ensures c.add-in-Some.ensures
 
 pub returns : goal.returns
-returns c =
-    ended c.args.losses.now c.args.list.now c.clear.new.self c.add.new.list c.loop-next.list c.loop-next.at c.args.first
-    c.clear.ensures.places c.clear.ensures.lender c.clear.ensures.entries c.add.ensures c.loop-next.invariant c.in_default.ensures
+returns c = record {
+  holding =
+      ended c.args.losses.now c.args.list.now c.clear.new.self c.add.new.list c.loop-next.list c.loop-next.at c.args.first
+      c.clear.ensures.places c.clear.ensures.lender c.clear.ensures.entries c.add.ensures c.loop-next.invariant c.in_default.ensures;
+  room =
+      kept_long c.args.losses.now c.args.list.now c.clear.new.self c.add.new.list c.loop-next.list c.loop-next.at c.args.first
+      c.clear.ensures.places c.add.ensures c.loop-next.invariant;
+}

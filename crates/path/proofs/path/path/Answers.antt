@@ -1,5 +1,8 @@
-use Rattle.std.proofs.Common.{◌≡◌, ℕ, length, None, subst, arith}
+use Rattle.std.proofs.Common.{◌≡◌, ℕ, length, None, ap, ◌∙◌, subst, arith}
+use Rattle.list.specs.declared.List.{List}
+use Rattle.list.specs.Entries.{places}
 use Rattle.loss.specs.Table.{Table}
+use Rattle.envelope.specs.declared.Step.{Step}
 use Rattle.marks.specs.Table.{marks_of}
 use Rattle.path.specs.Outcome.{path_refusal}
 use Rattle.path.proofs.Least.{row_fits}
@@ -22,4 +25,5 @@ returns g c =
           c.capacity-room.ensures.same go c.least_by_count.auto.numbers c.in_ok-least_by_count.ensures c.steps.ensures.value c.steps.ensures.cases;
       lender = lent t (marks_of c.args.marks.now) c.args.shortest c.args.n c.args.numbers.now c.least_by_count.new.numbers c.args.list.now c.capacity-room.new.self c.steps.new.list c.steps.result
           c.capacity-room.ensures.same go c.least_by_count.auto.numbers c.in_ok-least_by_count.ensures c.steps.ensures.value c.steps.ensures.cases;
+      room = c.steps.ensures.room ∙ ap (λ (l : List Step). length (places l)) c.capacity-room.ensures.same;
     }

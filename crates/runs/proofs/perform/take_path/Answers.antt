@@ -9,4 +9,5 @@ returns g c = record {
       c.path.result c.args.steps.now c.path.new.steps c.args.numbers.now c.path.new.numbers c.min-end.ensures c.path.ensures.path;
   same = search rules;
   lender = search rules;
+  room = search rules;
 }

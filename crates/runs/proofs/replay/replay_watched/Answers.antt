@@ -8,9 +8,9 @@ use Rattle.runs.proofs.replay.replay_watched.Goals as goal
 
 pub loop-i-init : goal.loop-i-init
 loop-i-init g c =
-    let e = c.in-ok-begin.ensures in
-    let s = given (run_refusal (g.L.Loss.table c.args.loss.now) (length c.args.calls.now) (length (places c.args.replies.now))) c.in-ok-begin.field-0 (fresh (g.L.Loss.table c.args.loss.now)) e.answer in
-    begun (g.L.Loss.table c.args.loss.now) (length c.args.numbers.now) (length c.args.trace.now) c.args.calls.now (length (places c.args.replies.now)) c.begin.new.replies c.args.boundaries.now c.args.steps.now c.in-ok-begin.field-0 c.begin.new.marks
+    let e = c.in_ok-begin.ensures in
+    let s = given (run_refusal (g.L.Loss.table c.args.loss.now) (length c.args.calls.now) (length (places c.args.replies.now))) c.in_ok-begin.field-0 (fresh (g.L.Loss.table c.args.loss.now)) e.answer in
+    begun (g.L.Loss.table c.args.loss.now) (length c.args.numbers.now) (length c.args.trace.now) c.args.calls.now (length (places c.args.replies.now)) c.begin.new.replies c.args.boundaries.now c.args.steps.now c.in_ok-begin.field-0 c.begin.new.marks
     s.0 s.1 e.slice.room e.replies.0 e.marks
 
 pub loop-i-preserved : goal.loop-i-preserved
@@ -29,8 +29,8 @@ look-requires-2 g c = lawful_now (g.L.Loss.table c.args.loss.now) (length c.args
 
 pub returns : goal.returns
 returns g c =
-    let e = c.in-ok-begin.ensures in
-    let s = given (run_refusal (g.L.Loss.table c.args.loss.now) (length c.args.calls.now) (length (places c.args.replies.now))) c.in-ok-begin.field-0 (fresh (g.L.Loss.table c.args.loss.now)) e.answer in
+    let e = c.in_ok-begin.ensures in
+    let s = given (run_refusal (g.L.Loss.table c.args.loss.now) (length c.args.calls.now) (length (places c.args.replies.now))) c.in_ok-begin.field-0 (fresh (g.L.Loss.table c.args.loss.now)) e.answer in
     let w = looked (g.L.Loss.table c.args.loss.now) (length c.args.numbers.now) (length c.args.trace.now) c.args.calls.now c.loop-i.i c.begin.new.replies c.loop-i.replies c.args.boundaries.now c.loop-i.boundaries c.args.steps.now c.loop-i.steps c.loop-i.line c.loop-i.marks c.loop-i.invariant c.look-2.new.replies c.look-2.new.boundaries c.look-2.new.steps c.look-2.ensures.replies c.look-2.ensures.boundaries c.look-2.ensures.steps in
     let done = ended (g.L.Loss.table c.args.loss.now) (length c.args.numbers.now) (length c.args.trace.now) c.args.calls.now c.loop-i.i c.begin.new.replies c.look-2.new.replies c.args.boundaries.now c.look-2.new.boundaries c.args.steps.now c.look-2.new.steps c.loop-i.line c.loop-i.marks w c.loop-i-test.false c.loop-i.auto.i-end in
     record {
