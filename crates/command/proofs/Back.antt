@@ -4,7 +4,7 @@ use lib.Signed.{mag}
 use Rattle.std.specs.Int.{saturate_to_bits}
 use Rattle.std.specs.Option.{option_map}
 use Rattle.std.specs.Fmt.{signed_decimal as signed-digits-of}
-use Rattle.std.specs.List.{AllByRecursion as All}
+use Rattle.std.specs.List.{AllByRecursion}
 use Rattle.std.proofs.lemmas.Bool.{cases_Bool, and_parts, leb-true, eqb-true, le-ltb}
 use Rattle.std.proofs.lemmas.Bool.Decides.{nat_tests}
 use Rattle.leaves.specs.declared.kind.LossKind.TheVariants.{Squares, Distances, Votes}
@@ -18,7 +18,7 @@ use Rattle.command.proofs.Spaced.{words_stand}
 
 -- a word of printable characters
 abbrev Plain : List ℕ → Type 0
-Plain w = (0 < length w) × All Printable w
+Plain w = (0 < length w) × AllByRecursion Printable w
 
 no_blank : (b : ℕ) → Printable b → blank b ≡ false
 no_blank b p = let low = p.low in grind (arith, nat_tests)
@@ -26,28 +26,28 @@ no_blank b p = let low = p.low in grind (arith, nat_tests)
 is_legible : (b : ℕ) → Printable b → legible b ≡ true
 is_legible b p = let low = p.low in let high = p.high in grind (arith, nat_tests)
 
-solid : (w : List ℕ) → All Printable w → All (λ b. blank b ≡ false) w
+solid : (w : List ℕ) → AllByRecursion Printable w → AllByRecursion (λ b. blank b ≡ false) w
 solid [] all = tt
 solid (b ∷ w) all = (no_blank b all.0, solid w all.1)
 
-solids : (ws : List (List ℕ)) → All Plain ws → All (λ w. (0 < length w) × All (λ b. blank b ≡ false) w) ws
+solids : (ws : List (List ℕ)) → AllByRecursion Plain ws → AllByRecursion (λ w. (0 < length w) × AllByRecursion (λ b. blank b ≡ false) w) ws
 solids [] all = tt
 solids (w ∷ ws) all = ((all.0.0, solid w all.0.1), solids ws all.1)
 
-legible_word : (w : List ℕ) → All Printable w → all_legible w ≡ true
+legible_word : (w : List ℕ) → AllByRecursion Printable w → all_legible w ≡ true
 legible_word [] all = refl
 legible_word (b ∷ w) all = let e = is_legible b all.0 in simp e (legible_word w all.1)
 
-legible_front : (w text : List ℕ) → All Printable w → all_legible text ≡ true → all_legible (w ++ 32 ∷ text) ≡ true
+legible_front : (w text : List ℕ) → AllByRecursion Printable w → all_legible text ≡ true → all_legible (w ++ 32 ∷ text) ≡ true
 legible_front [] text all e = e
 legible_front (b ∷ w) text all e = let l = is_legible b all.0 in simp l (legible_front w text all.1 e)
 
-legible_spaced : (ws : List (List ℕ)) → All Plain ws → all_legible (spaced ws) ≡ true
+legible_spaced : (ws : List (List ℕ)) → AllByRecursion Plain ws → all_legible (spaced ws) ≡ true
 legible_spaced [] all = refl
 legible_spaced (w ∷ []) all = legible_word w all.0.1
 legible_spaced (w ∷ v ∷ ws) all = legible_front w (spaced (v ∷ ws)) all.0.1 (legible_spaced (v ∷ ws) all.1)
 
-line_is : (ws : List (List ℕ)) → All Plain ws → length (spaced ws) ≤ 4096 → read_line (spaced ws) ≡ read_words ws
+line_is : (ws : List (List ℕ)) → AllByRecursion Plain ws → length (spaced ws) ≤ 4096 → read_line (spaced ws) ≡ read_words ws
 line_is ws all short =
     let a : ltb 4096 (length (spaced ws)) ≡ false = le-ltb 4096 (length (spaced ws)) short in
     let b : all_legible (spaced ws) ≡ true = legible_spaced ws all in
@@ -79,21 +79,21 @@ signed_back (negsuc n) h = (
   ap (λ o. option_map (saturate_to_bits 31) (option_map (λ m. neg_ℤ (pos m)) o)) (printed_writes (suc n) (omega arith)).value ∙ ap (λ m. Some (negsuc m)) (omega arith),
 )
 
-plain_readings : (all : List ℤ) → All (λ z. mag z < 2 ^ 31) all → All Plain (map signed-digits-of all)
+plain_readings : (all : List ℤ) → AllByRecursion (λ z. mag z < 2 ^ 31) all → AllByRecursion Plain (map signed-digits-of all)
 plain_readings [] fits = tt
 plain_readings (z ∷ all) fits = ((signed_back z fits.0).0, plain_readings all fits.1)
 
-readings_back : (all : List ℤ) → All (λ z. mag z < 2 ^ 31) all → read_all reading (map signed-digits-of all) ≡ Some all
+readings_back : (all : List ℤ) → AllByRecursion (λ z. mag z < 2 ^ 31) all → read_all reading (map signed-digits-of all) ≡ Some all
 readings_back [] fits = refl
 readings_back (z ∷ all) fits =
     let a : reading (signed-digits-of z) ≡ Some z = (signed_back z fits.0).1 in
     let b : read_all reading (map signed-digits-of all) ≡ Some all = readings_back all fits.1 in rw (a, b)
 
-plain_gaps : (gaps : List ℕ) → All (λ gap. gap < 2 ^ 16) gaps → All Plain (map digits_of gaps)
+plain_gaps : (gaps : List ℕ) → AllByRecursion (λ gap. gap < 2 ^ 16) gaps → AllByRecursion Plain (map digits_of gaps)
 plain_gaps [] fits = tt
 plain_gaps (gap ∷ gaps) fits = (plain_digits gap (omega (arith, fits.0)), plain_gaps gaps fits.1)
 
-gaps_back : (gaps : List ℕ) → All (λ gap. gap < 2 ^ 16) gaps → read_all (natural 16) (map digits_of gaps) ≡ Some gaps
+gaps_back : (gaps : List ℕ) → AllByRecursion (λ gap. gap < 2 ^ 16) gaps → read_all (natural 16) (map digits_of gaps) ≡ Some gaps
 gaps_back [] fits = refl
 gaps_back (gap ∷ gaps) fits =
     let a : natural 16 (digits_of gap) ≡ Some gap = natural_back 16 gap (omega (arith, fits.0)) (omega (arith, fits.0)) in
@@ -104,7 +104,7 @@ abbrev plain : List ℕ → Bool
 plain [] = true
 plain (b ∷ w) = leb 33 b && (leb b 126 && plain w)
 
-plain_word : (w : List ℕ) → plain w ≡ true → All Printable w
+plain_word : (w : List ℕ) → plain w ≡ true → AllByRecursion Printable w
 plain_word [] e = tt
 plain_word (b ∷ w) e =
     let one = and_parts (leb 33 b) (leb b 126 && plain w) e in

@@ -1,6 +1,6 @@
 -- The digits that are printed of a number, and what is read of them.
 use Rattle.std.proofs.Common.{◌≡◌, ℕ, ◌+◌, ◌-◌, ◌*◌, ◌/◌, ◌%◌, ◌^◌, ◌<◌, ◌≤◌, true, List, [], ◌∷◌, ◌++◌, length, Some, decimal as digits_of, ap, ◌∙◌, inl, inr, arith}
-use Rattle.std.specs.List.{AllByRecursion as All}
+use Rattle.std.specs.List.{AllByRecursion}
 use Rattle.std.proofs.lemmas.Fmt.{decimal_by_steps}
 use Rattle.std.proofs.lemmas.Bool.Decides.{nat_tests}
 use Rattle.std.proofs.lemmas.Bool.{cases_Bool}
@@ -16,7 +16,7 @@ pub record Printable (b : ℕ) : Type 0 where
 pub record Writes (n : ℕ) (ds : List ℕ) : Type 0 where
   pub value : decimal ds ≡ Some n
   pub some : 0 < length ds
-  pub plain : All Printable ds
+  pub plain : AllByRecursion Printable ds
 
 digit_is : (r : ℕ) → r < 10 → is_digit (48 + r) ≡ true
 digit_is r h = grind (arith, nat_tests)
@@ -28,7 +28,7 @@ after_push (b ∷ ds) k n r h e = elim (cases_Bool (is_digit b)) [
   | inr t ↦ (let z : ◌≡◌ {A = ℕ} 0 1 = cc (simp t at e) in absurd (omega arith))
 ]
 
-plain_push : (xs : List ℕ) (y : ℕ) → All Printable xs → Printable y → All Printable (xs ++ y ∷ [])
+plain_push : (xs : List ℕ) (y : ℕ) → AllByRecursion Printable xs → Printable y → AllByRecursion Printable (xs ++ y ∷ [])
 plain_push [] y all p = (p, tt)
 plain_push (x ∷ xs) y all p = (all.0, plain_push xs y all.1 p)
 

@@ -1,12 +1,12 @@
 -- Words with one space between neighbours, and what is read of them.
 use Rattle.std.proofs.Common.{◌≡◌, ℕ, true, false, List, [], ◌∷◌, ◌++◌, refl, ap, ◌∙◌, ap₂, arith}
-use Rattle.std.specs.List.{AllByRecursion as All}
+use Rattle.std.specs.List.{AllByRecursion}
 use Rattle.command.specs.Words.{blank, word, words_after, words}
 use Rattle.command.specs.Theorems.{spaced, WordsStand}
 
 -- no byte is a blank
 abbrev Solid : List ℕ → Type 0
-Solid w = All (λ b. blank b ≡ false) w
+Solid w = AllByRecursion (λ b. blank b ≡ false) w
 
 word_alone : (w : List ℕ) → Solid w → word w ≡ w
 word_alone [] all = refl

@@ -2,7 +2,7 @@
 use Rattle.std.specs.Prelude.{◌≡◌, ℕ, ◌^◌, ◌<◌, ◌≤◌, false, List, [], ◌∷◌, ◌++◌, map, length, Some, Ok, codes, decimal as digits_of}
 use Rattle.std.specs.Int.Signed.{mag}
 use Rattle.std.specs.Fmt.{signed_decimal as signed-digits-of}
-use Rattle.std.specs.List.{AllByRecursion as All}
+use Rattle.std.specs.List.{AllByRecursion}
 use Rattle.leaves.specs.declared.kind.LossKind.{LossKind}
 use Rattle.leaves.specs.declared.kind.LossKind.TheVariants.{Squares, Distances, Votes}
 use Rattle.command.specs.Words.{blank, words}
@@ -18,7 +18,7 @@ spaced (w ∷ v ∷ ws) = w ++ 32 ∷ spaced (v ∷ ws)
 
 -- a text is cut into the words that it was made of, where each has a byte and no blank
 abbrev pub WordsStand : Type 0
-WordsStand = (ws : List (List ℕ)) → All (λ w. (0 < length w) × All (λ b. blank b ≡ false) w) ws → words (spaced ws) ≡ ws
+WordsStand = (ws : List (List ℕ)) → AllByRecursion (λ w. (0 < length w) × AllByRecursion (λ b. blank b ≡ false) w) ws → words (spaced ws) ≡ ws
 
 -- the digits that are printed of a number are read as that number
 abbrev pub NumbersStand : Type 0
@@ -48,11 +48,11 @@ abbrev pub InRange : Said → Type 0
 InRange nothing = Unit {0}
 InRange help = Unit {0}
 InRange (loss kind) = Unit {0}
-InRange (readings all) = (0 < length all) × All (λ z. mag z < 2 ^ 31) all
+InRange (readings all) = (0 < length all) × AllByRecursion (λ z. mag z < 2 ^ 31) all
 InRange (mark m) = (m.first < 2 ^ 16) × (m.last < 2 ^ 16) × (m.boundaries < 2 ^ 8)
 InRange (unmark first) = first < 2 ^ 16
 InRange (shortest m) = m < 2 ^ 16
-InRange (price penalty gaps) = (penalty < 2 ^ 64) × All (λ gap. gap < 2 ^ 16) gaps
+InRange (price penalty gaps) = (penalty < 2 ^ 64) × AllByRecursion (λ gap. gap < 2 ^ 16) gaps
 InRange (best_by_penalty penalty) = penalty < 2 ^ 64
 InRange (best_by_count count) = count < 2 ^ 16
 InRange path = Unit {0}

@@ -1,7 +1,7 @@
 -- The boundaries of the starts that win are the winner.
 use Rattle.std.proofs.Common.{◌≡◌, ℕ, ◌+◌, ◌<◌, true, false, ltb, List, [], ◌∷◌, length, Some, None, Option, sym, ap, ◌∙◌, subst, ap₂, inl, inr, arith}
 use native.Mathlib.Decide.{dec_lt}
-use Rattle.std.specs.List.{AllByRecursion as All}
+use Rattle.std.specs.List.{AllByRecursion}
 use Rattle.std.proofs.lemmas.Bool.Decides.{nat_tests}
 use Rattle.std.proofs.lemmas.Bool.{ltb-true, ltb-false, lt-ltb}
 use Rattle.std.specs.Option.{option_map}
@@ -48,7 +48,7 @@ few n a (b ∷ ds) h = let k : length ds + b < n = few n b ds h.1 in let l : a <
 pub few_boundaries : (n : ℕ) (ds : List ℕ) → Division n ds → length ds < n
 few_boundaries n ds h = let k : length ds + 0 < n = few n 0 ds h in omega arith
 
-module _ (f : ℕ → ℕ → ℕ) (marks : List Mark) (m n : ℕ) (pos : 0 < n) (sound : All WellFormed marks) where
+module _ (f : ℕ → ℕ → ℕ) (marks : List Mark) (m n : ℕ) (pos : 0 < n) (sound : AllByRecursion WellFormed marks) where
   abbrev Edge : ℕ → ℕ → Type 0
   Edge = Permitted marks m n
 

@@ -1,7 +1,7 @@
 -- What holds where nothing refuses a cut.
 use Rattle.std.proofs.Common.{◌≡◌, ℕ, ◌+◌, ◌-◌, ◌*◌, ◌^◌, ◌<◌, ◌≤◌, Bool, true, false, eqb, ltb, leb, List, [], ◌∷◌, Some, None, Option, refl, arith}
 use Rattle.std.proofs.lemmas.Bool.Decides.{nat_tests}
-use Rattle.std.specs.List.{AllByRecursion as All}
+use Rattle.std.specs.List.{AllByRecursion}
 use Rattle.fault.specs.declared.Fault.{Fault}
 use Rattle.fault.specs.Refusal.{or_else}
 use Rattle.loss.specs.Table.{Table}
@@ -64,10 +64,10 @@ pub ready_by_count : (t : Table) (n count numbers trace places : ℕ) → count_
 ready_by_count t n count numbers trace places h =
     let both = neither _ _ h in (no_most n count _ both.0, ready t n (count + 1) numbers trace places both.1)
 
-all_formed : (ms : List Mark) → Standing ms → All WellFormed ms
+all_formed : (ms : List Mark) → Standing ms → AllByRecursion WellFormed ms
 all_formed [] s = tt
 all_formed (m ∷ ms) s = (s.0, all_formed ms s.2)
 
 -- the marks of a table are well formed
-pub table_formed : (t : MarkTable) → All WellFormed (marks_of t)
+pub table_formed : (t : MarkTable) → AllByRecursion WellFormed (marks_of t)
 table_formed t = all_formed (marks_of t) (every_table_stands t).0

@@ -1,6 +1,6 @@
 -- `winner` gives the one that wins.
 use Rattle.std.proofs.Common.{◌≡◌, ℕ, ◌<◌, ◌≤◌, Bool, true, false, cond, ◌⊎◌, List, [], ◌∷◌, Some, None, Decides, filter, Option, sym, refl, ap, ◌∙◌, subst, inl, inr, arith}
-use Rattle.std.specs.List.{AllByRecursion as All}
+use Rattle.std.specs.List.{AllByRecursion}
 use Rattle.std.proofs.lemmas.Bool.Decides.{not_from_Decides}
 use Rattle.std.proofs.lemmas.Bool.{cases_order}
 use Rattle.division.specs.declared.mark.Mark.{Mark}
@@ -12,12 +12,12 @@ use Rattle.division.proofs.Tested.{beats_tested, candidate_tested}
 use Rattle.division.proofs.Order.{beats_self, beats_trans, beats_total}
 use Rattle.division.proofs.Listed.{every_division_listed}
 
-all_in : (P : List ℕ → Type 0) (xs : List (List ℕ)) (x : List ℕ) → All P xs → In x xs → P x
+all_in : (P : List ℕ → Type 0) (xs : List (List ℕ)) (x : List ℕ) → AllByRecursion P xs → In x xs → P x
 all_in P [] x h i = absurd i
 all_in P (y ∷ xs) x h (inl e) = rw e h.0
 all_in P (y ∷ xs) x h (inr i) = all_in P xs x h.1 i
 
-all_map : (P Q : List ℕ → Type 0) → ((x : List ℕ) → P x → Q x) → (xs : List (List ℕ)) → All P xs → All Q xs
+all_map : (P Q : List ℕ → Type 0) → ((x : List ℕ) → P x → Q x) → (xs : List (List ℕ)) → AllByRecursion P xs → AllByRecursion Q xs
 all_map P Q f [] h = tt
 all_map P Q f (x ∷ xs) h = (f x h.0, all_map P Q f xs h.1)
 
@@ -42,7 +42,7 @@ kept_ok ok (y ∷ xs) x i = go (kept_ok ok xs x) (ok y) refl i
 -- what `best` chose of xs
 abbrev Chosen : (List ℕ → ℕ) → Option (List ℕ) → List (List ℕ) → Type 0
 Chosen cost None xs = xs ≡ []
-Chosen cost (Some d) xs = In d xs × All (λ e. Beats cost e d → ⊥) xs
+Chosen cost (Some d) xs = In d xs × AllByRecursion (λ e. Beats cost e d → ⊥) xs
 
 module _ (cost : List ℕ → ℕ) where
   chosen_more : (x : List ℕ) (xs : List (List ℕ)) (o : Option (List ℕ)) → Chosen cost o xs → Chosen cost (better (beats cost) x o) (x ∷ xs)

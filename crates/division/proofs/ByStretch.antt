@@ -1,6 +1,6 @@
 -- A division is allowed exactly where each of its stretches is permitted. Each mark is so by itself: that marks share no gap is not used.
 use Rattle.std.proofs.Common.{◌≡◌, ℕ, suc, ◌+◌, ◌<◌, ◌≤◌, true, false, ◌⊎◌, ◌↔◌, List, [], ◌∷◌, sym, refl, ap, ◌∙◌, inl, inr, arith}
-use Rattle.std.specs.List.{AllByRecursion as All}
+use Rattle.std.specs.List.{AllByRecursion}
 use Rattle.std.proofs.lemmas.Bool.{cases_lt, cond-true, cond-false, cases_Bool}
 use Rattle.division.specs.Division.{EachStretch, Division}
 use Rattle.division.specs.declared.mark.Mark.{Mark}
@@ -128,27 +128,27 @@ module _ (n : ℕ) (k : Mark) (sound : WellFormed k) where
             λ h. none_from 0 ds r (each_map (λ a b. Permits n a b k) (KeepsNone n k) (λ a b o. o.none y) n 0 ds h) ∙ sym y,
           )
 
-by_marks : (n : ℕ) (ds : List ℕ) → Division n ds → (marks : List Mark) → All WellFormed marks → All (Obeys ds) marks ↔ EachStretch (λ a b. All (Permits n a b) marks) n 0 ds
+by_marks : (n : ℕ) (ds : List ℕ) → Division n ds → (marks : List Mark) → AllByRecursion WellFormed marks → AllByRecursion (Obeys ds) marks ↔ EachStretch (λ a b. AllByRecursion (Permits n a b) marks) n 0 ds
 by_marks n ds r [] s = (λ _. each_any (λ a b. Unit {0}) (λ _ _. tt) n 0 ds, λ _. tt)
 by_marks n ds r (k ∷ marks) s =
     let here : Obeys ds k ↔ EachStretch (λ a b. Permits n a b k) n 0 ds = by_mark n k s.0 ds r in
-    let rest : All (Obeys ds) marks ↔ EachStretch (λ a b. All (Permits n a b) marks) n 0 ds = by_marks n ds r marks s.1 in (
-      λ h. each_zip (λ a b. Permits n a b k) (λ a b. All (Permits n a b) marks) n 0 ds (here.0 h.0) (rest.0 h.1),
+    let rest : AllByRecursion (Obeys ds) marks ↔ EachStretch (λ a b. AllByRecursion (Permits n a b) marks) n 0 ds = by_marks n ds r marks s.1 in (
+      λ h. each_zip (λ a b. Permits n a b k) (λ a b. AllByRecursion (Permits n a b) marks) n 0 ds (here.0 h.0) (rest.0 h.1),
       λ h. (
-        here.1 (each_map (λ a b. Permits n a b k × All (Permits n a b) marks) (λ a b. Permits n a b k) (λ a b p. p.0) n 0 ds h),
-        rest.1 (each_map (λ a b. Permits n a b k × All (Permits n a b) marks) (λ a b. All (Permits n a b) marks) (λ a b p. p.1) n 0 ds h),
+        here.1 (each_map (λ a b. Permits n a b k × AllByRecursion (Permits n a b) marks) (λ a b. Permits n a b k) (λ a b p. p.0) n 0 ds h),
+        rest.1 (each_map (λ a b. Permits n a b k × AllByRecursion (Permits n a b) marks) (λ a b. AllByRecursion (Permits n a b) marks) (λ a b p. p.1) n 0 ds h),
       ),
     )
 
 pub allowed_by_stretch : AllowedByStretch
 allowed_by_stretch marks m n ds s = (
-  λ h. each_map (λ a b. (a < b) × ((a + m ≤ b) × All (Permits n a b) marks)) (Permitted marks m n) (λ a b p. record { rises = p.0; long = p.1.0; marked = p.1.1 }) n 0 ds
-      (each_zip (λ a b. a < b) (λ a b. (a + m ≤ b) × All (Permits n a b) marks) n 0 ds h.division
-      (each_zip (λ a b. a + m ≤ b) (λ a b. All (Permits n a b) marks) n 0 ds h.long_enough ((by_marks n ds h.division marks s).0 h.obeyed))),
+  λ h. each_map (λ a b. (a < b) × ((a + m ≤ b) × AllByRecursion (Permits n a b) marks)) (Permitted marks m n) (λ a b p. record { rises = p.0; long = p.1.0; marked = p.1.1 }) n 0 ds
+      (each_zip (λ a b. a < b) (λ a b. (a + m ≤ b) × AllByRecursion (Permits n a b) marks) n 0 ds h.division
+      (each_zip (λ a b. a + m ≤ b) (λ a b. AllByRecursion (Permits n a b) marks) n 0 ds h.long_enough ((by_marks n ds h.division marks s).0 h.obeyed))),
   λ h. let r : Division n ds = each_map (Permitted marks m n) (λ a b. a < b) (λ a b p. p.rises) n 0 ds h in
       record {
         division = r;
         long_enough = each_map (Permitted marks m n) (λ a b. a + m ≤ b) (λ a b p. p.long) n 0 ds h;
-        obeyed = (by_marks n ds r marks s).1 (each_map (Permitted marks m n) (λ a b. All (Permits n a b) marks) (λ a b p. p.marked) n 0 ds h);
+        obeyed = (by_marks n ds r marks s).1 (each_map (Permitted marks m n) (λ a b. AllByRecursion (Permits n a b) marks) (λ a b p. p.marked) n 0 ds h);
       },
 )

@@ -1,6 +1,6 @@
 -- The tests say what the relations say.
 use Rattle.std.proofs.Common.{◌≡◌, ℕ, ◌+◌, ◌<◌, ◌≤◌, Bool, ◌&&◌, eqb, ltb, leb, List, [], ◌∷◌, length, Decides, refl, ap₂}
-use Rattle.std.specs.List.{AllByRecursion as All}
+use Rattle.std.specs.List.{AllByRecursion}
 use Rattle.std.proofs.lemmas.Bool.Decides.{Decides-and, Decides-or, Decides-ltb, Decides-eqb, Decides-like}
 use Rattle.std.proofs.ByRecursion.{Decides-by_and}
 use Rattle.std.proofs.lemmas.Bool.{leb-true, le-leb, false≢true}
@@ -21,7 +21,7 @@ pub decides_each : (p : ℕ → ℕ → Bool) (P : ℕ → ℕ → Type 0) → (
 decides_each p P each n a [] = each a n
 decides_each p P each n a (b ∷ ds) = Decides-and (p a b) (each_stretch p n b ds) (each a b) (decides_each p P each n b ds)
 
-pub decides_obeys : (ds : List ℕ) (marks : List Mark) → Decides (obeys_all ds marks) (All (Obeys ds) marks)
+pub decides_obeys : (ds : List ℕ) (marks : List Mark) → Decides (obeys_all ds marks) (AllByRecursion (Obeys ds) marks)
 decides_obeys ds marks = Decides-by_and (obeys ds) (Obeys ds) (obeys_all ds) (λ k. Decides-eqb _ _) refl (λ _ _. refl) marks
 
 pub allowed_tested : AllowedTested

@@ -1,6 +1,6 @@
 -- Marks, and the divisions that they and the shortest stretch allow.
 use Rattle.std.specs.Prelude.{◌≡◌, ℕ, suc, ◌<◌, ◌≤◌, Bool, true, cond, ◌&&◌, List, [], ◌∷◌, ◌==◌, nat_le, nat_lt}
-use Rattle.std.specs.List.{AllByRecursion as All}
+use Rattle.std.specs.List.{AllByRecursion}
 use Rattle.division.specs.declared.mark.Mark.{Mark}
 use Rattle.division.specs.Division.{Division, division, LongEnough, long_enough}
 
@@ -31,7 +31,7 @@ obeys_all ds (k ∷ ks) = obeys ds k && obeys_all ds ks
 pub record Allowed (marks : List Mark) (m n : ℕ) (ds : List ℕ) : Type 0 where
   pub division : Division n ds
   pub long_enough : LongEnough m n ds
-  pub obeyed : All (Obeys ds) marks
+  pub obeyed : AllByRecursion (Obeys ds) marks
 
 abbrev pub allowed : List Mark → ℕ → ℕ → List ℕ → Bool
 allowed marks m n ds = division n ds && (long_enough m n ds && obeys_all ds marks)

@@ -1,6 +1,6 @@
 -- Being allowed as a condition on each stretch by itself.
 use Rattle.std.specs.Prelude.{◌≡◌, ℕ, ◌+◌, ◌<◌, ◌≤◌, List}
-use Rattle.std.specs.List.{AllByRecursion as All}
+use Rattle.std.specs.List.{AllByRecursion}
 use Rattle.division.specs.declared.mark.Mark.{Mark}
 use Rattle.division.specs.Marks.{Covers}
 
@@ -28,4 +28,4 @@ pub record Permits (n a b : ℕ) (k : Mark) : Type 0 where
 pub record Permitted (marks : List Mark) (m n a b : ℕ) : Type 0 where
   pub rises : a < b
   pub long : a + m ≤ b
-  pub marked : All (Permits n a b) marks
+  pub marked : AllByRecursion (Permits n a b) marks

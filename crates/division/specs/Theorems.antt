@@ -1,6 +1,6 @@
 -- What the definitions mean: the theorems that the crate's contracts name.
 use Rattle.std.specs.Prelude.{◌≡◌, ℕ, ◌<◌, ◌≤◌, ◌⊎◌, ◌↔◌, List, [], ◌∷◌, length, Some, None, Decides, Option}
-use Rattle.std.specs.List.{AllByRecursion as All}
+use Rattle.std.specs.List.{AllByRecursion}
 use Rattle.division.specs.declared.mark.Mark.{Mark}
 use Rattle.division.specs.Division.{EachStretch, Division, all_divisions}
 use Rattle.division.specs.Marks.{Allowed, allowed}
@@ -49,4 +49,4 @@ WinnerCostsLeast = (c : Criterion) (f : ℕ → ℕ → ℕ) (marks : List Mark)
 
 -- being allowed is a condition on each stretch by itself, whatever the marks, also those that reach past n
 abbrev pub AllowedByStretch : Type 0
-AllowedByStretch = (marks : List Mark) (m n : ℕ) (ds : List ℕ) → All WellFormed marks → Allowed marks m n ds ↔ EachStretch (Permitted marks m n) n 0 ds
+AllowedByStretch = (marks : List Mark) (m n : ℕ) (ds : List ℕ) → AllByRecursion WellFormed marks → Allowed marks m n ds ↔ EachStretch (Permitted marks m n) n 0 ds

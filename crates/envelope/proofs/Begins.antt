@@ -1,6 +1,6 @@
 -- Counts fall along the path, and each step begins_at where its count first wins.
 use Rattle.std.proofs.Common.{◌≡◌, ℕ, zero, suc, ◌+◌, ◌<◌, ◌≤◌, Bool, true, false, cond, eqb, ◌⊎◌, List, [], ◌∷◌, ◌++◌, Some, None, Option, sym, refl, ap, subst, ap₂, inl, inr, arith}
-use Rattle.std.specs.List.{AllByRecursion as All}
+use Rattle.std.specs.List.{AllByRecursion}
 use Rattle.std.proofs.lemmas.Bool.{cases_lt, cases_eq, eqb-false}
 use Rattle.envelope.specs.declared.Step.{Step}
 use Rattle.envelope.specs.Path.{better_count, path_at, begun_at, begins_at, steps_below, Cheapest, largest_penalty}
@@ -22,7 +22,7 @@ counts_fall losses n p q s t h a b = go (cases_lt s.count t.count)
     go (inr c) = c
 
 module _ (losses : ℕ → Option ℕ) (n : ℕ) where
-  all_append : (xs ys : List Step) → All (Begins losses n) xs → All (Begins losses n) ys → All (Begins losses n) (xs ++ ys)
+  all_append : (xs ys : List Step) → AllByRecursion (Begins losses n) xs → AllByRecursion (Begins losses n) ys → AllByRecursion (Begins losses n) (xs ++ ys)
   all_append [] ys h k = k
   all_append (x ∷ xs) ys h k = (h.0, all_append xs ys h.1 k)
 
@@ -31,11 +31,11 @@ module _ (losses : ℕ → Option ℕ) (n : ℕ) where
       let z : q ≡ t.penalty = sym (((path_names_cheapest losses n q).some t).0 e).penalty_is in
       record { wins = subst (λ (p : ℕ). path_at losses p n ≡ Some t) z e; first = λ p s b f. h p s (omega arith) f }
 
-  begun_at_first : (o : Option Step) → path_at losses 0 n ≡ o → All (Begins losses n) (begun_at None o)
+  begun_at_first : (o : Option Step) → path_at losses 0 n ≡ o → AllByRecursion (Begins losses n) (begun_at None o)
   begun_at_first None e = tt
   begun_at_first (Some t) e = (begins_at_at 0 t e (λ p s b f. absurd (omega arith)), tt)
 
-  begun_at_next : (q : ℕ) (b o : Option Step) → path_at losses q n ≡ b → path_at losses (suc q) n ≡ o → All (Begins losses n) (begun_at b o)
+  begun_at_next : (q : ℕ) (b o : Option Step) → path_at losses q n ≡ b → path_at losses (suc q) n ≡ o → AllByRecursion (Begins losses n) (begun_at b o)
   begun_at_next q None None f e = tt
   begun_at_next q (Some s) None f e = tt
   begun_at_next q None (Some t) f e = (begins_at_at (suc q) t e (λ p s b g. none_again p s (((path_names_cheapest losses n p).some s).0 g)), tt)
@@ -44,7 +44,7 @@ module _ (losses : ℕ → Option ℕ) (n : ℕ) where
       none_again p s u = let g = (path_names_cheapest losses n q).none.0 f s.count u.below in let h = u.held in let z : ◌≡◌ {A = ℕ} 0 1 = cc in absurd (omega arith)
   begun_at_next q (Some s) (Some t) f e = go (eqb s.count t.count) refl
     where
-      go : (v : Bool) → eqb s.count t.count ≡ v → All (Begins losses n) (cond v [] (t ∷ []))
+      go : (v : Bool) → eqb s.count t.count ≡ v → AllByRecursion (Begins losses n) (cond v [] (t ∷ []))
       go true d = tt
       go false d = (
         begins_at_at (suc q) t e
@@ -62,11 +62,11 @@ module _ (losses : ℕ → Option ℕ) (n : ℕ) where
               at (inl w) = absurd (ne w)
               at (inr w) = omega arith
 
-  opening_at : (q : ℕ) → All (Begins losses n) (begins_at losses n q)
+  opening_at : (q : ℕ) → AllByRecursion (Begins losses n) (begins_at losses n q)
   opening_at zero = begun_at_first (path_at losses 0 n) refl
   opening_at (suc q) = begun_at_next q (path_at losses q n) (path_at losses (suc q) n) refl refl
 
-  below_open : (q : ℕ) → All (Begins losses n) (steps_below losses n q)
+  below_open : (q : ℕ) → AllByRecursion (Begins losses n) (steps_below losses n q)
   unfolding steps_below
   below_open zero = tt
   below_open (suc q) = all_append (steps_below losses n q) (begins_at losses n q) (below_open q) (opening_at q)

@@ -1,6 +1,6 @@
 -- The theorems about the path that the crate's contracts name.
 use Rattle.std.specs.Prelude.{◌≡◌, ℕ, ◌<◌, ◌≤◌, ◌↔◌, List, Some, None, Option}
-use Rattle.std.specs.List.{AllByRecursion as All}
+use Rattle.std.specs.List.{AllByRecursion}
 use Rattle.envelope.specs.declared.Step.{Step}
 use Rattle.envelope.specs.Path.{path_at, path_steps, Cheapest, Path}
 
@@ -26,7 +26,7 @@ pub record Begins (losses : ℕ → Option ℕ) (n : ℕ) (s : Step) : Type 0 wh
   pub first : (p : ℕ) (t : Step) → p < s.penalty → path_at losses p n ≡ Some t → s.count < t.count
 
 abbrev pub StepsBegin : Type 0
-StepsBegin = (losses : ℕ → Option ℕ) (n : ℕ) → All (Begins losses n) (path_steps losses n)
+StepsBegin = (losses : ℕ → Option ℕ) (n : ℕ) → AllByRecursion (Begins losses n) (path_steps losses n)
 
 -- only the losses below n count
 abbrev pub OnlyCountsBelow : Type 0

@@ -1,7 +1,7 @@
 -- What the definitions mean: the theorems that the crate's contracts name.
 use Rattle.std.specs.Prelude.{◌≡◌, ℕ, ◌*◌, ◌%◌, ◌^◌, ◌<◌, ◌≤◌, true, ◌↔◌, List, length, take, ℤ, Ok, Err, ◌≢◌}
 use Rattle.std.specs.Int.Signed.{mag}
-use Rattle.std.specs.List.{flat_map, AllByRecursion as All}
+use Rattle.std.specs.List.{flat_map, AllByRecursion}
 use Rattle.fault.specs.declared.Fault.TheVariants.{UnknownFrame}
 use Rattle.hexadecimal.specs.Digits.{text_of}
 use Rattle.hexadecimal.specs.Theorems.{Bytes}
@@ -65,7 +65,7 @@ FrontSuffices = (size : ReadingSize) (line : List ℕ) → line_frame size (take
 
 -- readings that fit two bytes are read back, and whole readings have just their bytes
 abbrev pub ReadingsReadBack : Type 0
-ReadingsReadBack = (xs : List ℤ) → All (λ x. mag x < 2 ^ 15) xs → readings_in (flat_map reading_bytes xs) ≡ xs
+ReadingsReadBack = (xs : List ℤ) → AllByRecursion (λ x. mag x < 2 ^ 15) xs → readings_in (flat_map reading_bytes xs) ≡ xs
 
 abbrev pub ReadingsWrittenBack : Type 0
 ReadingsWrittenBack = (bytes : List ℕ) → Bytes bytes → length bytes % 2 ≡ 0 → flat_map reading_bytes (readings_in bytes) ≡ bytes
@@ -75,7 +75,7 @@ abbrev pub PairInRange : PairReading → Type 0
 PairInRange x = (mag x.port < 2 ^ 15) × (x.code < 2 ^ 8)
 
 abbrev pub PairsReadBack : Type 0
-PairsReadBack = (xs : List PairReading) → All PairInRange xs → pairs_in (flat_map pair_bytes xs) ≡ xs
+PairsReadBack = (xs : List PairReading) → AllByRecursion PairInRange xs → pairs_in (flat_map pair_bytes xs) ≡ xs
 
 abbrev pub PairsWrittenBack : Type 0
 PairsWrittenBack = (bytes : List ℕ) → Bytes bytes → length bytes % 3 ≡ 0 → flat_map pair_bytes (pairs_in bytes) ≡ bytes

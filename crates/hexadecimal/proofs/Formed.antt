@@ -1,7 +1,7 @@
 -- A line has bytes exactly where it is well formed.
 use Rattle.std.proofs.Common.{◌≡◌, ℕ, ◌+◌, ◌-◌, ◌*◌, ◌/◌, ◌%◌, ◌<◌, Bool, true, false, cond, eqb, ltb, List, [], ◌∷◌, length, Some, None, Err, Option, Result, sym, refl, ap, ◌∙◌, subst, inl, inr, arith, rules}
 use Rattle.std.proofs.lemmas.Bool.{cases_lt, ne_eqb, le-ltb, eqb-false, ltb-false}
-use Rattle.std.specs.List.{AllByRecursion as All}
+use Rattle.std.specs.List.{AllByRecursion}
 use Rattle.fault.specs.declared.Fault.{Fault}
 use Rattle.fault.specs.declared.Fault.TheVariants.{MalformedLine}
 use Rattle.hexadecimal.specs.Digits.{digit_value, digit_for, bytes_in, text_of}
@@ -14,7 +14,7 @@ has_value : (c : ℕ) → Digit c → (d : ℕ) × (digit_value c ≡ Some d)
 has_value c (inl p) = (c - 48, search rules)
 has_value c (inr p) = (c - 55, search rules)
 
-has_bytes : (line : List ℕ) → length line % 2 ≡ 0 → All Digit line → (bs : List ℕ) × (bytes_in line ≡ Some bs)
+has_bytes : (line : List ℕ) → length line % 2 ≡ 0 → AllByRecursion Digit line → (bs : List ℕ) × (bytes_in line ≡ Some bs)
 has_bytes [] paired digits = ([], refl)
 has_bytes (a ∷ []) paired digits = absurd (omega arith)
 has_bytes (a ∷ b ∷ line) paired digits =
@@ -33,7 +33,7 @@ read_when_well_formed line formed =
 is_digit : (d : ℕ) → d < 16 → Digit (digit_for d)
 is_digit d l = elim (cases_lt d 10) [ inl m ↦ inl (search rules) | inr m ↦ inr (search rules) ]
 
-digits_in : (bs : List ℕ) → Bytes bs → All Digit (text_of bs)
+digits_in : (bs : List ℕ) → Bytes bs → AllByRecursion Digit (text_of bs)
 digits_in [] all = tt
 digits_in (b ∷ bs) all = (is_digit (b / 16) (omega arith), (is_digit (b % 16) (omega arith), digits_in bs all.1))
 
@@ -41,7 +41,7 @@ formed_text : (line bs : List ℕ) → eqb (length line) 0 ≡ false → ltb 130
 formed_text line bs some few e =
     let back = written_back line bs e in
     let long : length line ≡ 2 * length bs = ap length (sym back.0) ∙ length_text bs in
-    record { some = omega (arith, eqb-false (length line) 0 some); few = ltb-false 130 (length line) few; paired = omega arith; digits = subst (All Digit) back.0 (digits_in bs back.1) }
+    record { some = omega (arith, eqb-false (length line) 0 some); few = ltb-false 130 (length line) few; paired = omega arith; digits = subst (AllByRecursion Digit) back.0 (digits_in bs back.1) }
 
 -- one of the tests refuses what is not well formed
 settled : (line : List ℕ) (none long : Bool) (bytes : Option (List ℕ)) → (none ≡ false → long ≡ false → (bs : List ℕ) → bytes ≡ Some bs → WellFormed line) → (WellFormed line → ⊥) →

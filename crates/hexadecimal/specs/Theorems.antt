@@ -1,13 +1,13 @@
 -- What the definitions mean: the theorems that the crate's contracts name.
 use Rattle.std.specs.Prelude.{◌≡◌, ℕ, ◌%◌, ◌<◌, ◌≤◌, ◌⊎◌, List, length, take, Some, Ok, Err}
-use Rattle.std.specs.List.{AllByRecursion as All}
+use Rattle.std.specs.List.{AllByRecursion}
 use Rattle.fault.specs.declared.Fault.TheVariants.{MalformedLine}
 use Rattle.hexadecimal.specs.Digits.{bytes_in, text_of}
 use Rattle.hexadecimal.specs.Line.{line_bytes}
 
 -- each number fits a byte
 abbrev pub Bytes : List ℕ → Type 0
-Bytes bs = All (λ b. b < 256) bs
+Bytes bs = AllByRecursion (λ b. b < 256) bs
 
 -- bytes that are written are read back
 abbrev pub ReadBack : Type 0
@@ -30,7 +30,7 @@ pub record WellFormed (line : List ℕ) : Type 0 where
   pub some : 1 ≤ length line
   pub few : length line ≤ 130
   pub paired : length line % 2 ≡ 0
-  pub digits : All Digit line
+  pub digits : AllByRecursion Digit line
 
 -- a line has bytes where it is well formed, and is refused as malformed where it is not
 abbrev pub ReadWhenWellFormed : Type 0

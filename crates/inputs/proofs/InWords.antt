@@ -1,6 +1,6 @@
 -- Lines are read as they were written.
 use Rattle.std.proofs.Common.{◌≡◌, ℕ, ◌+◌, false, eqb, List, [], ◌∷◌, ◌++◌, refl, ap, ◌∙◌, arith}
-use Rattle.std.specs.List.{AllByRecursion as All}
+use Rattle.std.specs.List.{AllByRecursion}
 use Rattle.std.proofs.lemmas.Bool.{ne_eqb}
 use Rattle.std.proofs.lemmas.List.{append_assoc, length-take, take_all}
 use Rattle.inputs.specs.Lines.{on_first, all_lines, text_of}
@@ -17,13 +17,13 @@ open_line : (b : ℕ) (line : List ℕ) → OneLine (b ∷ line) → all_lines (
 open_line b [] one = let e : eqb b 10 ≡ false = ne_eqb b 10 one.0 in simp e
 open_line b (k ∷ line) one = let e : eqb b 10 ≡ false = ne_eqb b 10 one.0 in simp e (ap (on_first b) (open_line k line one.1))
 
-behind : (lines : List (List ℕ)) (rest : List ℕ) → All OneLine lines → all_lines (text_of lines ++ rest) ≡ lines ++ all_lines rest
+behind : (lines : List (List ℕ)) (rest : List ℕ) → AllByRecursion OneLine lines → all_lines (text_of lines ++ rest) ≡ lines ++ all_lines rest
 behind [] rest all = refl
 behind (line ∷ lines) rest all =
     let e : ((line ++ 10 ∷ []) ++ text_of lines) ++ rest ≡ line ++ (10 ∷ (text_of lines ++ rest)) = append_assoc (line ++ 10 ∷ []) (text_of lines) rest ∙ append_assoc line (10 ∷ []) (text_of lines ++ rest) in
     ap all_lines e ∙ first_line line (text_of lines ++ rest) all.0 ∙ ap (λ (ls : List (List ℕ)). line ∷ ls) (behind lines rest all.1)
 
-written : (lines : List (List ℕ)) → All OneLine lines → all_lines (text_of lines) ≡ lines
+written : (lines : List (List ℕ)) → AllByRecursion OneLine lines → all_lines (text_of lines) ≡ lines
 written [] all = refl
 written (line ∷ lines) all =
     ap all_lines (append_assoc line (10 ∷ []) (text_of lines)) ∙ first_line line (text_of lines) all.0 ∙ ap (λ (ls : List (List ℕ)). line ∷ ls) (written lines all.1)

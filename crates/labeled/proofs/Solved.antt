@@ -2,7 +2,7 @@
 use Rattle.std.proofs.Common.{◌≡◌, ℕ, zero, suc, ◌+◌, ◌-◌, ◌*◌, ◌<◌, ◌≤◌, ◌⊎◌, List, [], ◌∷◌, ◌++◌, length, get_or, take, drop, replicate, ℤ, pos, ◌-ℤ◌, nat_abs, Some, sym, refl, ap, ◌∙◌, subst, ap₂, inl, inr, add-zero, add_assoc, zero-add, arith}
 use Rattle.std.proofs.lemmas.List.{take_rest, drop-drop, length-take, length-drop, length-append, length-replicate, get_or-take, get_or-drop, get_or-replicate, get_or_append_left, get_or-append_right, take_at, drop_at}
 use Rattle.std.proofs.lemmas.Bool.{cases_order}
-use Rattle.std.specs.List.{AllByRecursion as All}
+use Rattle.std.specs.List.{AllByRecursion}
 use Rattle.std.proofs.ByRecursion.{All-append, All-take, All-drop}
 use Rattle.leaves.specs.Readings.{cost_at, least_of, Rising, Between, stretch_of, loss_of, table_of}
 use Rattle.leaves.specs.LeastLevel.{least_of_all, reached_between}
@@ -113,7 +113,7 @@ module _ (g : ℕ → ℕ) (rises : Rising g) (xs : List ℤ) where
       (λ a b e. omega (arith, e, (least_of_all g rises (stretch_of xs a b)).least (get_or ms a (pos 0)))) (length xs) 0 ds (one_level g xs ms ds h row)) in
       omega (arith, k, row_splits g xs ms ds h row.as_many)
 
-all_flat : (P : ℤ → Type 0) (k : ℕ) (v : ℤ) → P v → All P (replicate k v)
+all_flat : (P : ℤ → Type 0) (k : ℕ) (v : ℤ) → P v → AllByRecursion P (replicate k v)
 all_flat P zero v h = tt
 all_flat P (suc k) v h = (h, all_flat P k v h)
 
@@ -123,7 +123,7 @@ module _ (g : ℕ → ℕ) (xs : List ℤ) (P : ℤ → Type 0) (best : ℕ → 
   pub record Built (n a : ℕ) (ds : List ℕ) : Type 0 where
     pub row : List ℤ
     pub long : length row ≡ n - a
-    pub each : All P row
+    pub each : AllByRecursion P row
     pub steady : (i : ℕ) → a + suc i < n → (In (a + suc i) ds → ⊥) → get_or row i (pos 0) ≡ get_or row (suc i) (pos 0)
     pub cost : row_cost g (drop a xs) row ≡ sum_stretches (loss_of g xs) n a ds
 
@@ -181,7 +181,7 @@ module _ (g : ℕ → ℕ) (xs : List ℤ) (P : ℤ → Type 0) (best : ℕ → 
           ∙ sym (get_or-append_right (replicate (b - a) (best a b)) rest.row (b - a) (suc i) (pos 0) fk (omega arith) ∙ ap (λ (j : ℕ). get_or rest.row j (pos 0)) f)
 
   -- some row of levels costs the loss of its division
-  as_much : (ds : List ℕ) → Division (length xs) ds → (ms : List ℤ) × LevelRow (length xs) ds ms × All P ms × (row_cost g xs ms ≡ loss (loss_of g xs) (length xs) ds)
+  as_much : (ds : List ℕ) → Division (length xs) ds → (ms : List ℤ) × LevelRow (length xs) ds ms × AllByRecursion P ms × (row_cost g xs ms ≡ loss (loss_of g xs) (length xs) ds)
   as_much ds h =
       let t = build (length xs) refl 0 ds h in (
         t.row,
@@ -191,7 +191,7 @@ module _ (g : ℕ → ℕ) (xs : List ℤ) (P : ℤ → Type 0) (best : ℕ → 
       )
 
 module _ (g : ℕ → ℕ) (rises : Rising g) (xs : List ℤ) where
-  any_level : (ds : List ℕ) → Division (length xs) ds → (ms : List ℤ) × LevelRow (length xs) ds ms × All (λ _. Unit {0}) ms × (row_cost g xs ms ≡ loss (loss_of g xs) (length xs) ds)
+  any_level : (ds : List ℕ) → Division (length xs) ds → (ms : List ℤ) × LevelRow (length xs) ds ms × AllByRecursion (λ _. Unit {0}) ms × (row_cost g xs ms ≡ loss (loss_of g xs) (length xs) ds)
   any_level =
       as_much g xs (λ _. Unit {0}) (λ a b. (least_of_all g rises (stretch_of xs a b)).reached.0) (λ a b. tt) (λ a b. (least_of_all g rises (stretch_of xs a b)).reached.1)
 
@@ -239,7 +239,7 @@ winner_kept_between g rises lo span c marks m xs d fits e =
 pub no_winner_no_choice : NoWinnerNoChoice
 no_winner_no_choice g c marks m xs e = (winner_wins c (loss_of g xs) marks m (length xs)).none.0 e
 
-pub solved_by : (g : ℕ → ℕ) → Rising g → (lo : ℤ) (span dearest : ℕ) (xs : List ℤ) → All (Between lo span) xs → SolvedBy g lo span xs (table_of g dearest xs)
+pub solved_by : (g : ℕ → ℕ) → Rising g → (lo : ℤ) (span dearest : ℕ) (xs : List ℤ) → AllByRecursion (Between lo span) xs → SolvedBy g lo span xs (table_of g dearest xs)
 solved_by g rises lo span dearest xs fits = record {
   solves = λ c marks m d e. winner_solves g rises c marks m xs d e;
   between = λ c marks m d e. winner_kept_between g rises lo span c marks m xs d fits e;

@@ -2,7 +2,7 @@
 -- gaps, and the marks say how many gaps are chosen where. A choice costs the price of each reading's distance from its level, and
 -- by penalty the penalty for each chosen gap.
 use Rattle.std.specs.Prelude.{◌≡◌, ℕ, suc, ◌+◌, ◌*◌, ◌<◌, ◌≤◌, List, [], ◌∷◌, length, ℤ, pos, ◌-ℤ◌, Some, None, slice_index_or, unsigned_abs}
-use Rattle.std.specs.List.{AllByRecursion as All}
+use Rattle.std.specs.List.{AllByRecursion}
 use Rattle.loss.specs.Table.{Table}
 use Rattle.leaves.specs.Readings.{cost_at, Rising, Between, stretch_of, loss_of}
 use Rattle.division.specs.declared.mark.Mark.{Mark}
@@ -34,7 +34,7 @@ pub record Solves (c : Criterion) (g : ℕ → ℕ) (marks : List Mark) (m : ℕ
 
 -- the levels of d can all be kept to lo, lo + 1, .. lo + span, at no higher cost: codes of classes are given classes
 abbrev pub KeptBetween : Criterion → (ℕ → ℕ) → ℤ → ℕ → List ℤ → List ℕ → ℕ → Type 0
-KeptBetween c g lo span xs d t = (ms : List ℤ) × LevelRow (length xs) d ms × All (Between lo span) ms × (choice_cost c g xs d ms ≡ t)
+KeptBetween c g lo span xs d t = (ms : List ℤ) × LevelRow (length xs) d ms × AllByRecursion (Between lo span) ms × (choice_cost c g xs d ms ≡ t)
 
 -- for every price that rises with the distance: the winner solves the problem, and its total is the least cost
 abbrev pub WinnerSolves : Type 0
@@ -44,7 +44,7 @@ WinnerSolves =
 
 abbrev pub WinnerKeptBetween : Type 0
 WinnerKeptBetween =
-    (g : ℕ → ℕ) → Rising g → (lo : ℤ) (span : ℕ) (c : Criterion) (marks : List Mark) (m : ℕ) (xs : List ℤ) (d : List ℕ) → All (Between lo span) xs → winner c (loss_of g xs) marks m (length xs) ≡ Some d →
+    (g : ℕ → ℕ) → Rising g → (lo : ℤ) (span : ℕ) (c : Criterion) (marks : List Mark) (m : ℕ) (xs : List ℤ) (d : List ℕ) → AllByRecursion (Between lo span) xs → winner c (loss_of g xs) marks m (length xs) ≡ Some d →
     KeptBetween c g lo span xs d (total c (loss_of g xs) (length xs) d)
 
 -- where there is no winner, no gaps are allowed

@@ -2,7 +2,7 @@
 use Rattle.std.proofs.Common.{◌≡◌, ℕ, ◌-◌, ◌^◌, ◌<◌, ◌≤◌, List, drop, ℤ, IfOk, Ok, Err, Result, sym, ◌∙◌, arith}
 use Rattle.std.proofs.ByRecursion.{All-take, All-drop}
 use Rattle.std.proofs.lemmas.Bool.Decides.{nat_tests}
-use Rattle.std.specs.List.{AllByRecursion as All}
+use Rattle.std.specs.List.{AllByRecursion}
 use Rattle.fault.specs.declared.Fault.{Fault}
 use Rattle.loss.specs.Table.{Table, answer}
 use Rattle.leaves.specs.Readings.{Least, least_from, Rising, Between, stretch_of, table_of}
@@ -15,7 +15,7 @@ answer_is t a b c light ab bn e = grind (arith, nat_tests)
 pub answer_tells : (t : Table) (a b c : ℕ) → Ok c ≡ answer t a b → c ≡ t.loss a b
 answer_tells t a b c h = grind (arith, nat_tests)
 
-module _ (g : ℕ → ℕ) (rises : Rising g) (lo : ℤ) (span ceiling : ℕ) (xs : List ℤ) (fits : All (Between lo span) xs) (a b : ℕ) where
+module _ (g : ℕ → ℕ) (rises : Rising g) (lo : ℤ) (span ceiling : ℕ) (xs : List ℤ) (fits : AllByRecursion (Between lo span) xs) (a b : ℕ) where
   pub answer_least : (r : Result ℕ Fault) → r ≡ answer (table_of g ceiling xs) a b → IfOk r (λ c. Least g (stretch_of xs a b) c)
   answer_least (Ok c) h = rw (answer_tells (table_of g ceiling xs) a b c h) (least_of_all g rises (stretch_of xs a b))
   answer_least (Err f) h = tt

@@ -3,12 +3,12 @@ use Rattle.std.proofs.Common.{◌≡◌, ℕ, ◌+◌, ◌<◌, ◌≤◌, Bool,
 use Rattle.std.proofs.ByRecursion.{All-get_or, Decides-by_and}
 use Rattle.std.proofs.lemmas.List.{length-append, length-take, take_more}
 use Rattle.std.proofs.lemmas.Bool.Decides.{nat_tests}
-use Rattle.std.specs.List.{AllByRecursion as All}
+use Rattle.std.specs.List.{AllByRecursion}
 use Rattle.fault.specs.declared.Fault.{Fault}
 use Rattle.leaves.specs.Taking.{between, all_between, taken, after, gathered, after_all}
 
 module _ (lo : ℤ) (span : ℕ) (ys : List ℤ) where
-  pub all_between_decides : Decides (all_between lo span ys) (All (λ y. between lo span y ≡ true) ys)
+  pub all_between_decides : Decides (all_between lo span ys) (AllByRecursion (λ y. between lo span y ≡ true) ys)
   all_between_decides = Decides-by_and (between lo span) (λ y. between lo span y ≡ true) (all_between lo span) (λ y. (λ e. e, λ e. e)) refl (λ _ _. refl) ys
 
   pub each_between : all_between lo span ys ≡ true → (i : ℕ) → i < length ys → between lo span (get_or ys i (pos 0)) ≡ true

@@ -3,7 +3,7 @@ use Rattle.std.proofs.Common.{◌≡◌, ℕ, zero, suc, ◌+◌, ◌-◌, ◌*�
 use Rattle.std.proofs.lemmas.Int.{ints, by_lt_z}
 use Rattle.std.proofs.lemmas.Bool.Decides.{leb_tells}
 use Rattle.std.proofs.lemmas.List.{take-append-drop, take-take, drop-take, take-map, drop-map, take_more, length-take, length-drop, get_or-take, get_or-drop}
-use Rattle.std.specs.List.{AllByRecursion as All}
+use Rattle.std.specs.List.{AllByRecursion}
 use Rattle.leaves.specs.Readings.{cost_at, least_of, Rising, stretch_of, loss_of}
 use Rattle.leaves.specs.LeastLevel.{least_of_all, least_is_one, nearer}
 use Rattle.leaves.specs.Kept.{placed, sum_of, apart, cost, Low, held}
@@ -56,7 +56,7 @@ cost_is g lo (u ∷ us) k =
     let e : g (nat_abs (placed lo u -ℤ placed lo k)) ≡ g (apart k u) = ap g (apart_is lo u k) in
     omega (arith, e, cost_is g lo us k)
 
-above : (lo w : ℤ) → w <ℤ lo → (us : List ℕ) → All (λ x. nat_abs (x -ℤ placed lo 0) ≤ nat_abs (x -ℤ w)) (map (placed lo) us)
+above : (lo w : ℤ) → w <ℤ lo → (us : List ℕ) → AllByRecursion (λ x. nat_abs (x -ℤ placed lo 0) ≤ nat_abs (x -ℤ w)) (map (placed lo) us)
 above lo w h [] = tt
 above lo w h (u ∷ us) = (omega (arith, ints), above lo w h us)
 

@@ -2,7 +2,7 @@
 use Rattle.std.specs.Prelude.{◌≡◌, ℕ, zero, suc, ◌<◌, ◌≤◌, ◌⊎◌, List, [], ◌∷◌, ℤ, pos, ◌+ℤ◌, ◌-ℤ◌, ◌≤ℤ◌, ◌<ℤ◌, fold, unsigned_abs, refl}
 use Rattle.std.proofs.Common.{◌∙◌, inl, inr, mul-le-mul, arith}
 use Rattle.std.specs.Int.{int_max, int_min}
-use Rattle.std.specs.List.{AllByRecursion as All}
+use Rattle.std.specs.List.{AllByRecursion}
 use Rattle.std.proofs.ByRecursion.{All-weaker, folded_min_z_bounds, folded_max_z_bounds}
 use Rattle.std.proofs.lemmas.Int.{ints, by_lt_z}
 use Rattle.std.proofs.lemmas.Bool.{cases_lt}
@@ -11,7 +11,7 @@ use Rattle.leaves.specs.Theorems.{LeastOfAll, LeastIsOne, LeastBetween, ReachedB
 
 module _ (g : ℕ → ℕ) (rises : (i j : ℕ) → i ≤ j → g i ≤ g j) where
   -- a level that is nearer to each reading costs no more
-  pub nearer : (xs : List ℤ) (u v : ℤ) → All (λ x. unsigned_abs (x -ℤ u) ≤ unsigned_abs (x -ℤ v)) xs → cost_at g xs u ≤ cost_at g xs v
+  pub nearer : (xs : List ℤ) (u v : ℤ) → AllByRecursion (λ x. unsigned_abs (x -ℤ u) ≤ unsigned_abs (x -ℤ v)) xs → cost_at g xs u ≤ cost_at g xs v
   nearer [] u v h = omega arith
   nearer (x ∷ xs) u v h =
       let here : g (unsigned_abs (x -ℤ u)) ≤ g (unsigned_abs (x -ℤ v)) = rises (unsigned_abs (x -ℤ u)) (unsigned_abs (x -ℤ v)) h.0 in
@@ -37,7 +37,7 @@ least_reached g xs (suc k) v = go (cases_lt (cost_at g xs v) (least_from g xs (v
     go (inr l) r = (r.0, omega (arith, r.1))
 
 module _
-    (g : ℕ → ℕ) (rises : (i j : ℕ) → i ≤ j → g i ≤ g j) (xs : List ℤ) (lo hi : ℤ) (low : All (λ y. lo ≤ℤ y) xs) (high : All (λ y. y ≤ℤ hi) xs) (range : lo ≤ℤ hi)
+    (g : ℕ → ℕ) (rises : (i j : ℕ) → i ≤ j → g i ≤ g j) (xs : List ℤ) (lo hi : ℤ) (low : AllByRecursion (λ y. lo ≤ℤ y) xs) (high : AllByRecursion (λ y. y ≤ℤ hi) xs) (range : lo ≤ℤ hi)
   where
     abbrev found : ℕ
     found = least_from g xs lo (unsigned_abs (hi -ℤ lo))
@@ -61,8 +61,8 @@ module _
 pub least_of_all : LeastOfAll
 least_of_all g rises [] = record { reached = (pos 0, refl); least = λ v. omega arith }
 least_of_all g rises (x ∷ xs) =
-    let low : All (λ y. fold int_min x xs ≤ℤ y) (x ∷ xs) = folded_min_z_bounds x xs (fold int_min x xs) refl in
-    let high : All (λ y. y ≤ℤ fold int_max x xs) (x ∷ xs) = folded_max_z_bounds x xs (fold int_max x xs) refl in
+    let low : AllByRecursion (λ y. fold int_min x xs ≤ℤ y) (x ∷ xs) = folded_min_z_bounds x xs (fold int_min x xs) refl in
+    let high : AllByRecursion (λ y. y ≤ℤ fold int_max x xs) (x ∷ xs) = folded_max_z_bounds x xs (fold int_max x xs) refl in
     within_range g rises (x ∷ xs) (fold int_min x xs) (fold int_max x xs) low high (omega (arith, ints, low.0, high.0))
 
 pub least_is_one : LeastIsOne

@@ -4,7 +4,7 @@ use Rattle.std.proofs.Common.{mul-le-mul_left, mul-suc, mul-zero, arith}
 use Rattle.std.proofs.lemmas.Int.{ints}
 use Rattle.std.proofs.lemmas.List.{length-take, length-map, get_or-take}
 use Rattle.std.proofs.ByRecursion.{All-take, All-drop, All-map, All-from_get_or}
-use Rattle.std.specs.List.{AllByRecursion as All}
+use Rattle.std.specs.List.{AllByRecursion}
 use Rattle.leaves.specs.Readings.{cost_at, least_of, Rising, Between, stretch_of, table_of, lowest, square, distance, differs}
 use Rattle.leaves.specs.LeastLevel.{least_of_all, rising_square, rising_distance, rising_differs}
 use Rattle.leaves.specs.declared.squares.Squares.{Squares}
@@ -15,7 +15,7 @@ use Rattle.loss.specs.Table.{Sound}
 use Rattle.leaves.specs.Kept.{placed, Low, held}
 
 module _ (g : ℕ → ℕ) (rises : Rising g) (c : ℕ) (lo : ℤ) (span : ℕ) (most : g span ≤ c) where
-  at_lowest : (xs : List ℤ) → All (Between lo span) xs → cost_at g xs lo ≤ c * length xs
+  at_lowest : (xs : List ℤ) → AllByRecursion (Between lo span) xs → cost_at g xs lo ≤ c * length xs
   at_lowest [] h = omega (arith, mul-zero c)
   at_lowest (x ∷ xs) h =
       let b = h.0 in
@@ -23,7 +23,7 @@ module _ (g : ℕ → ℕ) (rises : Rising g) (c : ℕ) (lo : ℤ) (span : ℕ) 
       let p : g (unsigned_abs (x -ℤ lo)) ≤ g span = rises (unsigned_abs (x -ℤ lo)) span d in
       omega (arith, p, most, at_lowest xs h.1, mul-suc c (length xs))
 
-  pub leaf_sound : (xs : List ℤ) → c ≤ 2 ^ 40 → length xs ≤ 512 → All (Between lo span) xs → Sound (table_of g c xs)
+  pub leaf_sound : (xs : List ℤ) → c ≤ 2 ^ 40 → length xs ≤ 512 → AllByRecursion (Between lo span) xs → Sound (table_of g c xs)
   leaf_sound xs light few fit = record {
     short = omega arith;
     light = omega arith;
@@ -35,7 +35,7 @@ module _ (g : ℕ → ℕ) (rises : Rising g) (c : ℕ) (lo : ℤ) (span : ℕ) 
         omega (arith, l, m, n);
   }
 
-pub held_between : (lo : ℤ) (span len : ℕ) (us : List ℕ) → Low span len us → All (Between lo span) (held lo len us)
+pub held_between : (lo : ℤ) (span len : ℕ) (us : List ℕ) → Low span len us → AllByRecursion (Between lo span) (held lo len us)
 held_between lo span len us low =
     All-map (Between lo span) (placed lo) (take len us)
     (All-from_get_or (λ u. Between lo span (placed lo u)) (take len us) 0

@@ -1,6 +1,6 @@
 // A loss that holds readings of its own and takes them one by one.
 ghost use Rattle.std.specs.Prelude.{◌≡◌, ℕ, ◌^◌, ◌≤◌, List, length, ℤ};
-ghost use Rattle.std.specs.List.{AllByRecursion as All};
+ghost use Rattle.std.specs.List.{AllByRecursion};
 ghost use Rattle.leaves.specs.Readings.{table_of, Rising, Between};
 ghost use Rattle.leaves.specs.Taking.{between, taken, after};
 
@@ -41,7 +41,7 @@ pub trait Leaf: Loss {
     // A reading further from the level costs no less.
     ghost rises: { Rising price };
 
-    ghost fits: { (x : Self) → All (Between lo span) (readings x) };
+    ghost fits: { (x : Self) → AllByRecursion (Between lo span) (readings x) };
 
     ghost few: { (x : Self) → length (readings x) ≤ 512 };
 }

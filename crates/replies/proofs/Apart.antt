@@ -1,7 +1,7 @@
 -- Different replies have different texts: each is read back from its bytes.
 use Rattle.std.proofs.Common.{◌≡◌, ℕ, zero, suc, ◌^◌, ◌<◌, cond, eqb, List, [], ◌∷◌, ◌++◌, length, get_or, drop, sym, refl, ap, ◌∙◌, arith}
 use Rattle.std.proofs.ByRecursion.{All-append}
-use Rattle.std.specs.List.{flat_map, AllByRecursion as All}
+use Rattle.std.specs.List.{flat_map, AllByRecursion}
 use Rattle.fault.specs.declared.Fault.{Fault}
 use Rattle.fault.specs.declared.Fault.TheVariants.{MalformedLine, UnknownFrame, ReadingOutOfRange, BadMark, BadShortest, BadPenalty, BadCount, BadStretch, TooManyReadings, SharedGap, TooManyMarks, NoSuchMark, NoAllowedDivision, ShortBuffer, TooHeavy, NoReading, WrongState}
 use Rattle.fault.specs.Number.{number}
@@ -42,7 +42,7 @@ abbrev entries_in : {X : Type 0} → (List ℕ → X) → ℕ → ℕ → List �
 entries_in read size zero bytes = []
 entries_in read size (suc n) bytes = read bytes ∷ entries_in read size n (drop size bytes)
 
-numbers_back : (gaps : List ℕ) → All (λ gap. gap < 2 ^ 16) gaps → entries_in (λ bytes. two_at bytes 0) 2 (length gaps) (flat_map two_bytes gaps) ≡ gaps
+numbers_back : (gaps : List ℕ) → AllByRecursion (λ gap. gap < 2 ^ 16) gaps → entries_in (λ bytes. two_at bytes 0) 2 (length gaps) (flat_map two_bytes gaps) ≡ gaps
 numbers_back [] all = refl
 numbers_back (gap ∷ gaps) all = rw (two_back gap all.0, numbers_back gaps all.1) refl
 
@@ -53,7 +53,7 @@ step_back : (s : Step) (rest : List ℕ) → StepInRange s → step_in (step_byt
 unfolding step_in
 step_back s rest fits = rw (eight_back s.penalty fits.0, two_back s.count fits.1, eight_back s.loss fits.2) refl
 
-steps_back : (steps : List Step) → All StepInRange steps → entries_in step_in 18 (length steps) (flat_map step_bytes steps) ≡ steps
+steps_back : (steps : List Step) → AllByRecursion StepInRange steps → entries_in step_in 18 (length steps) (flat_map step_bytes steps) ≡ steps
 steps_back [] all = refl
 steps_back (s ∷ steps) all = rw (step_back s (flat_map step_bytes steps) all.0, steps_back steps all.1) refl
 
@@ -80,7 +80,7 @@ cut_back : (kind : ℕ → List ℕ → Answered) (k total : ℕ) (gaps : List �
 unfolding cut_in
 cut_back kind k total gaps fits = rw (eight_back total fits.0, two_back (length gaps) fits.1, numbers_back gaps fits.2) refl
 
-path_back : (k : ℕ) (steps : List Step) → length steps < 2 ^ 16 → All StepInRange steps → path_in (k ∷ path_bytes steps) ≡ path steps
+path_back : (k : ℕ) (steps : List Step) → length steps < 2 ^ 16 → AllByRecursion StepInRange steps → path_in (k ∷ path_bytes steps) ≡ path steps
 unfolding path_in
 path_back k steps few all = rw (two_back (length steps) few, steps_back steps all) refl
 
