@@ -1,5 +1,4 @@
-use Rattle.std.proofs.Common.{◌≡◌, ◌≤◌, length, sym, ap, subst, arith}
-use Rattle.list.specs.Entries.{places}
+use Rattle.std.proofs.Common.{length, ap, arith}
 use Rattle.envelope.proofs.Written.{begun, again, ended, kept_long}
 use Rattle.envelope.proofs.write_steps.Goals as goal
 
