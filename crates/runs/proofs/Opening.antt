@@ -1,5 +1,5 @@
 -- Opening a line.
-use Rattle.std.proofs.Common.{◌≡◌, ℕ, Bool, true, false, List, [], is_some, Some, None, Ok, Option, Result, sym, refl, ap, ◌∙◌, subst, arith}
+use Rattle.std.proofs.Common.{◌≡◌, ℕ, false, List, [], is_some, Some, None, Ok, Option, sym, refl, ap, ◌∙◌, subst, arith}
 use Rattle.fault.specs.declared.Fault.{Fault}
 use Rattle.fault.specs.Refusal.{unless}
 use Rattle.loss.specs.Table.{Table}
@@ -13,7 +13,6 @@ use Rattle.line.specs.declared.Marking.{Marking}
 use Rattle.line.specs.Calls.{open_refusal, fresh}
 use Rattle.runs.specs.declared.model.Line.{Line}
 use Rattle.runs.specs.declared.model.Line.TheVariants.{Marking as marking}
-use Rattle.runs.specs.State.{Room}
 use Rattle.runs.specs.Kept.{Kept}
 use Rattle.runs.specs.Opened.{opening_refusal, opened_state, BeginsLawful}
 use Rattle.runs.proofs.Steps.{fresh_kept}

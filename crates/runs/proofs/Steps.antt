@@ -1,13 +1,11 @@
 -- The step of a run: what one call does keeps the law.
-use Rattle.std.proofs.Common.{◌≡◌, ℕ, min, Bool, true, false, ◌↔◌, List, [], ◌∷◌, ◌++◌, is_some, Some, None, Ok, Err, Option, Result, sym, refl, ap, ◌∙◌, subst, arith}
+use Rattle.std.proofs.Common.{◌≡◌, ℕ, min, true, false, List, [], ◌∷◌, ◌++◌, is_some, Some, None, Ok, Err, Option, Result, sym, refl, ap, ◌∙◌, subst, arith}
 use Rattle.fault.specs.declared.Fault.{Fault}
 use Rattle.fault.specs.Refusal.{or_else, unless}
 use Rattle.loss.specs.Table.{Table}
 use Rattle.division.specs.declared.mark.Mark.{Mark}
-use Rattle.division.specs.Winner.{Criterion as Sought, by_penalty, winner, total}
-use Rattle.division.specs.Theorems.{In}
+use Rattle.division.specs.Winner.{Criterion as Sought, winner, total}
 use Rattle.division.proofs.Best.{winner_wins, winner_costs_least}
-use Rattle.marks.specs.Marks.{laid, lifted, lay_refusal}
 use Rattle.envelope.specs.declared.Step.{Step}
 use Rattle.path.specs.Cuts.{line_path, NamesEveryCut}
 use Rattle.path.proofs.Named.{steps_name_every_cut}
@@ -23,8 +21,8 @@ use Rattle.runs.specs.declared.model.Call.TheVariants.{Mark as Lay, Unmark, Shor
 use Rattle.runs.specs.declared.model.Answer.{Answer}
 use Rattle.runs.specs.State.{Room, State, readings_of, shortest_of, winning, none_allowed, found, cause_at, cause, answer, changed, carried, Performed}
 use Rattle.runs.specs.History.{Event, History, stands, shortest, cut_for, before_path, event}
-use Rattle.runs.specs.Best.{View, is_cut, MarksAfter, HoldsWinner, WellAsked, Answered, BestAfter}
-use Rattle.runs.specs.Kept.{seen, Kept, Keeps}
+use Rattle.runs.specs.Best.{is_cut, MarksAfter, HoldsWinner, WellAsked, Answered}
+use Rattle.runs.specs.Kept.{Kept, Keeps}
 use Rattle.runs.proofs.Asked.{answered_now}
 use Rattle.runs.proofs.Marked.{laid_after, lifted_after, one_list}
 

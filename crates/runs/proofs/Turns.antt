@@ -1,5 +1,5 @@
 -- A run call by call: what holds before each call and after the last.
-use Rattle.std.proofs.Common.{◌≡◌, ℕ, zero, suc, ◌+◌, ◌<◌, ◌≤◌, min, true, false, cond, ltb, List, [], ◌∷◌, ◌++◌, length, get_or, take, drop, set, Some, None, Ok, Err, Option, Result, sym, refl, ap, ◌∙◌, subst, ap₂, arith, length-append, length-set, length-take, take_all, drop-set-lt, MatchResult}
+use Rattle.std.proofs.Common.{◌≡◌, ℕ, zero, suc, ◌+◌, ◌<◌, ◌≤◌, cond, ltb, List, [], ◌∷◌, ◌++◌, length, get_or, take, drop, set, Some, None, Ok, Err, Option, Result, sym, refl, ap, ◌∙◌, subst, ap₂, arith, length-append, length-set, length-take, take_all, drop-set-lt, MatchResult}
 use Rattle.std.proofs.lemmas.List.{take_more}
 use Rattle.std.proofs.lemmas.Bool.{lt-ltb}
 use Rattle.std.proofs.lemmas.Bool.Decides.{nat_tests}
@@ -18,7 +18,7 @@ use Rattle.runs.specs.declared.model.Line.{Line}
 use Rattle.runs.specs.declared.model.Line.TheVariants.{Marking as marking}
 use Rattle.runs.specs.declared.model.Call.{Call}
 use Rattle.runs.specs.declared.model.Answer.{Answer}
-use Rattle.runs.specs.State.{Room, State, room, room_of, state, SameSlice, PastKept}
+use Rattle.runs.specs.State.{Room, room_of, state, SameSlice, PastKept}
 use Rattle.runs.specs.History.{History, event, onward, history}
 use Rattle.runs.specs.Best.{BestAfter, view}
 use Rattle.runs.specs.Kept.{Kept, Keeps}

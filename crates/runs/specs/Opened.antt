@@ -1,5 +1,5 @@
 -- A line that may not be open yet.
-use Rattle.std.specs.Prelude.{◌≡◌, ℕ, [], Some, None, Ok, Err, Option, Result}
+use Rattle.std.specs.Prelude.{◌≡◌, ℕ, [], Some, None, Err, Option, Result}
 use Rattle.fault.specs.declared.Fault.{Fault}
 use Rattle.fault.specs.declared.Fault.TheVariants.{WrongState}
 use Rattle.loss.specs.Table.{Table}

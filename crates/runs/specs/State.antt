@@ -1,5 +1,5 @@
 -- A line with its marks and its two lists, and what one call makes of them.
-use Rattle.std.specs.Prelude.{◌≡◌, ℕ, min, Bool, true, false, List, [], length, drop, Some, None, Ok, Err, Option, Result}
+use Rattle.std.specs.Prelude.{◌≡◌, ℕ, min, List, [], length, drop, Some, None, Ok, Err, Option, Result}
 use Rattle.fault.specs.declared.Fault.{Fault}
 use Rattle.fault.specs.declared.Fault.TheVariants.{NoAllowedDivision, WrongState}
 use Rattle.fault.specs.Refusal.{or_else, unless}
@@ -16,7 +16,6 @@ use Rattle.path.specs.Cuts.{line_path}
 use Rattle.path.specs.Outcome.{path_refusal}
 use Rattle.line.specs.declared.Marking.{Marking}
 use Rattle.line.specs.Calls.{sought, shortest_refusal, cut_refusal, cut_winner}
-use Rattle.runs.specs.declared.model.Lent.{Lent}
 use Rattle.runs.specs.declared.model.Line.{Line}
 use Rattle.runs.specs.declared.model.Line.TheVariants.{Marking as marking, Cut as cut}
 use Rattle.runs.specs.declared.model.Call.{Call}

@@ -1,13 +1,11 @@
 -- From what a call of the line did to what the session then holds.
-use Rattle.std.proofs.Common.{◌≡◌, ℕ, List, Some, None, Ok, Err, Option, Result, sym, refl, ap, ◌∙◌, subst, arith}
+use Rattle.std.proofs.Common.{◌≡◌, ℕ, Some, None, Ok, Err, Option, Result, refl, ap, ◌∙◌, subst, arith}
 use Rattle.fault.specs.declared.Fault.{Fault}
 use Rattle.fault.specs.declared.Fault.TheVariants.{WrongState}
 use Rattle.fault.specs.Refusal.{unless}
 use Rattle.loss.specs.Table.{Table}
 use Rattle.list.specs.declared.List.{List as Lent-list}
-use Rattle.list.specs.Entries.{entries}
 use Rattle.marks.specs.declared.table.MarkTable.{MarkTable}
-use Rattle.marks.specs.Table.{marks_of}
 use Rattle.envelope.specs.declared.Step.{Step}
 use Rattle.runs.specs.declared.model.Line.{Line}
 use Rattle.runs.specs.declared.model.Call.{Call}
@@ -15,7 +13,7 @@ use Rattle.runs.specs.declared.model.Answer.{Answer}
 use Rattle.runs.specs.State.{Room, State, cause, answer, changed, carried, state, Performed}
 use Rattle.runs.specs.Opened.{opened_state, OpenedPerformed}
 use Rattle.kinds.specs.Sides.{Sides}
-use Rattle.session.specs.Held.{Held, holding, with_line, in_session, call_cause, called, unless_refused}
+use Rattle.session.specs.Held.{Held, holding, in_session, call_cause, called, unless_refused}
 
 -- what is told of the reply, and what the session holds
 pub record Done (t : Table) (room : Room) (call : Call) (reply : Result Answer Fault) (line : Option Line) (old new : Held) : Type 0 where

@@ -1,5 +1,5 @@
 -- What a session holds, and what a line of input answers and does.
-use Rattle.std.specs.Prelude.{◌≡◌, ℕ, cond, List, [], length, Some, None, Ok, Err, Option, Result}
+use Rattle.std.specs.Prelude.{ℕ, List, [], Some, None, Ok, Err, Option, Result}
 use Rattle.fault.specs.declared.Fault.{Fault}
 use Rattle.fault.specs.declared.Fault.TheVariants.{WrongState}
 use Rattle.loss.specs.Table.{Table}
@@ -13,13 +13,12 @@ use Rattle.line.specs.Calls.{open_refusal, fresh}
 use Rattle.line.specs.declared.Criterion.TheVariants.{Penalty, Count}
 use Rattle.runs.specs.declared.model.Lent.{Lent}
 use Rattle.runs.specs.declared.model.Line.{Line}
-use Rattle.runs.specs.declared.model.Line.TheVariants.{Marking as marking, Cut as cut_line}
+use Rattle.runs.specs.declared.model.Line.TheVariants.{Marking as marking}
 use Rattle.runs.specs.declared.model.Call.{Call}
 use Rattle.runs.specs.declared.model.Call.TheVariants.{Mark as Lay, Unmark, Shortest, Path, Cut, Reopen}
-use Rattle.runs.specs.State.{Room, State, cause, changed, carried}
+use Rattle.runs.specs.State.{Room, State, cause, changed}
 use Rattle.frames.specs.declared.size.ReadingSize.{ReadingSize}
-use Rattle.frames.specs.Asked.{Asked, readings, opening, mark, unmark, shortest, cut_by_penalty, cut_by_count, path, reopen, line_frame}
-use Rattle.replies.specs.Answered.{Answered, refusal, reply_text, readings as readings-reply, opening as opening-reply, mark as mark-reply, unmark as unmark-reply, shortest as shortest-reply, cut_by_penalty as penalty-reply, cut_by_count as count-reply, path as path-reply, reopen as reopen-reply}
+use Rattle.frames.specs.Asked.{Asked, readings, opening, mark, unmark, shortest, cut_by_penalty, cut_by_count, path, reopen}
 use Rattle.kinds.specs.Sides.{Sides, brought, taken, after}
 
 -- the readings, the line once it is open, its marks, and the entries of its two lists

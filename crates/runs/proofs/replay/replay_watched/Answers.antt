@@ -1,6 +1,6 @@
-use Rattle.std.proofs.Common.{length, sym, ap, ◌∙◌, arith, rules}
+use Rattle.std.proofs.Common.{length, arith}
 use native.Mathlib.Nat.{sub-zero}
-use Rattle.list.specs.Entries.{entries, places}
+use Rattle.list.specs.Entries.{places}
 use Rattle.line.specs.Calls.{fresh}
 use Rattle.runs.specs.Run.{run_refusal}
 use Rattle.runs.proofs.Turns.{given, begun, looked, lawful, lawful_now, again, ended, pushed, past_of}

@@ -1,4 +1,4 @@
-use Rattle.std.proofs.Common.{◌≡◌, ◌<◌, ◌≤◌, length, ap, ◌∙◌, arith}
+use Rattle.std.proofs.Common.{◌<◌, ◌≤◌, length, ap, ◌∙◌, arith}
 use Rattle.list.specs.Entries.{entries}
 use Rattle.session.proofs.Copying.{gained, none_past}
 use Rattle.session.proofs.entries.copied.Goals.{in-Some+in_ok-push, in_default}
