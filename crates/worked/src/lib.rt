@@ -11,3 +11,7 @@ mod laying;
 mod lists;
 #[cfg(test)]
 mod losses;
+#[cfg(test)]
+mod marked;
+#[cfg(test)]
+mod paths;
