@@ -26,31 +26,31 @@ impl<'a, T: Copy> List<'a, T> {
     }
 
     // How many entries it has room for.
-    pub fn capacity(&mut self) -> usize
-        ensures value { result ≡ length (places self.old) }
-        ensures same { self.new ≡ self.old }
+    pub fn capacity(&self) -> usize
+        ensures { result ≡ length (places self.now) }
     {
         self.items.len()
     }
 
     // How many entries it has.
-    pub fn len(&mut self) -> usize
-        ensures value { result ≡ length (entries self.old) }
-        ensures same { self.new ≡ self.old }
+    pub fn len(&self) -> usize
+        ensures { result ≡ length (entries self.now) }
     {
         self.len.min(self.items.len())
     }
 
     // The entry at the place `i`, counted from 0; none past the last.
-    pub fn get(&mut self, i: usize) -> Option<T>
-        ensures value { result ≡ slice_get (entries self.old) i }
-        ensures same { self.new ≡ self.old }
+    pub fn get(&self, i: usize) -> Option<T>
+        ensures { result ≡ slice_get (entries self.now) i }
     {
-        if i < self.len && i < self.items.len() {
-            Some(self.items[i])
-        } else {
-            None
-        }
+        self.as_slice().get(i).copied()
+    }
+
+    // The entries.
+    pub fn as_slice(&self) -> &[T]
+        ensures { result.now ≡ entries self.now }
+    {
+        &self.items[..self.len()]
     }
 
     // Forgets the entries, and writes nothing.
