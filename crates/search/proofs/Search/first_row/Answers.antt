@@ -1,17 +1,17 @@
 use Rattle.std.proofs.Common.{◌≡◌, ◌+◌, ◌≤◌, Some, sym, ap, ◌∙◌, subst, mul-le-mul_left, arith}
 use native.Mathlib.Decide.{dec_lt}
-use Rattle.search.proofs.rows.first_row.Goals as goal
+use Rattle.search.proofs.Search.first_row.Goals as goal
 
 pub put-requires : goal.put-requires
 put-requires g c =
-    let le : 1 ≤ c.args.n + 1 = omega arith in (
+    let le : 1 ≤ c.args.self.now.n + 1 = omega arith in (
       omega (arith, mul-le-mul_left g.T.Tally.stride le, c.requires),
       subst (λ x. g.T.Tally.fits 512 x) (sym c.nothing.ensures) (g.met.T.Tally.wider 0 512 g.T.Tally.zero (omega arith) g.met.T.Tally.least),
     )
 
 pub put-requires-in-loop-end : goal.put-requires-in-loop-end
 put-requires-in-loop-end g c =
-    let le : c.loop-end.end + 1 + 1 ≤ c.args.n + 1 = omega arith in
+    let le : c.loop-end.end + 1 + 1 ≤ c.args.self.now.n + 1 = omega arith in
     (omega (arith, mul-le-mul_left g.T.Tally.stride le, c.requires, c.loop-end.auto.rows), tt)
 
 pub loop-end-init : goal.loop-end-init
