@@ -9,7 +9,7 @@ ghost use Rattle.leaves.specs.Soundness.{length_held};
 
 use crate::model::FrameReadings;
 use crate::pair_readings::PairReadings;
-use cuts::refusal::MOST_READINGS;
+use loss::limits::MOST_READINGS;
 use fault::Fault;
 use frames::reading::{PairReading, next_pair};
 use frames::size::ReadingSize;

@@ -8,7 +8,7 @@ ghost use Rattle.leaves.specs.Readings.{lowest};
 ghost use Rattle.leaves.specs.Soundness.{length_held};
 
 use crate::model::FrameReadings;
-use cuts::refusal::MOST_READINGS;
+use loss::limits::MOST_READINGS;
 use fault::Fault;
 use frames::reading::next_reading;
 use frames::size::ReadingSize;

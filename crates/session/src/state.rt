@@ -18,12 +18,6 @@ use marks::table::MarkTable;
 use runs::model::{Call, Lent, Line};
 use runs::opened::{call_line, open_line};
 
-// All that is lent.
-const ALL: Lent = Lent {
-    numbers: 18446744073709551615,
-    trace: 18446744073709551615,
-};
-
 // The readings so far, and the line over them once it is open, with its marks.
 #[derive(Drop)]
 pub struct Session<R> {
@@ -65,7 +59,7 @@ impl<R: FrameReadings> Session<R> {
         ensures boundaries { PastKept boundaries.old boundaries.new }
         ensures steps { PastKept steps.old steps.new }
     {
-        let reply = call_line(
+        call_line(
             &mut self.line,
             call,
             &self.readings,
@@ -74,10 +68,7 @@ impl<R: FrameReadings> Session<R> {
             steps,
             numbers,
             trace,
-        );
-        match reply {
-            Ok(_) => Ok(()),
-            Err(fault) => Err(fault),
-        }
+        )?;
+        Ok(())
     }
 }
