@@ -1,8 +1,8 @@
 -- Prices at two penalties, and where two of them cross.
-use Rattle.std.proofs.Common.{◌≡◌, ℕ, ◌+◌, ◌-◌, ◌*◌, ◌/◌, ◌%◌, ◌^◌, ◌<◌, ◌≤◌, min, ◌⊎◌, ap, ◌∙◌, inl, inr, mod-lt, add-mul, mul-le-mul, mul-le-mul_left, mul-lt-mul_of_pos_right, mul-add, arith}
+use Rattle.std.proofs.Common.{◌≡◌, ℕ, ◌+◌, ◌-◌, ◌*◌, ◌/◌, ◌%◌, ◌<◌, ◌≤◌, min, ◌⊎◌, ap, ◌∙◌, inl, inr, mod-lt, add-mul, mul-le-mul, mul-le-mul_left, mul-lt-mul_of_pos_right, mul-add, arith}
 use Rattle.std.proofs.lemmas.Bool.{cases_eq, cases_lt}
 use Rattle.std.proofs.lemmas.Nat.{div-add-mod'}
-use Rattle.envelope.specs.Path.{cost_of, largest_penalty}
+use Rattle.envelope.specs.Path.{cost_of}
 
 -- a count that is no worse than a larger one stays so as the penalty rises
 pub later_cost_of : (a p k j l m : ℕ) → a ≤ p → k ≤ j → cost_of a k l ≤ cost_of a j m → cost_of p k l ≤ cost_of p j m
@@ -14,9 +14,6 @@ later_cost_of a p k j l m h c d =
 
 pub dearer : (a k j l m : ℕ) → j ≤ k → cost_of a k l < cost_of a j m → l < m
 dearer a k j l m c h = omega (arith, mul-le-mul_left {m = j} {n = k} a c)
-
-pub fits_cost_of : (p k : ℕ) → p ≤ largest_penalty → k < 512 → p * k ≤ 2 ^ 58
-fits_cost_of p k h c = mul-le-mul {n₁ = p} {m₁ = k} {n₂ = largest_penalty} {m₂ = 512} h (omega arith)
 
 abbrev pub up : ℕ → ℕ → ℕ
 up d w = d / w + min 1 (d % w)

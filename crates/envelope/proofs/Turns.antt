@@ -1,6 +1,7 @@
 -- The loops' turns, and the step that comes next.
-use Rattle.std.proofs.Common.{◌≡◌, ℕ, suc, ◌-◌, ◌<◌, ◌≤◌, min, Bool, true, false, cond, eqb, ◌⊎◌, List, length, get_or, Some, None, Option, sym, refl, subst, inl, inr, arith}
-use Rattle.std.proofs.lemmas.Bool.{cases_lt, cases_eq, eqb-false, ne_eqb, cond-false}
+use Rattle.std.proofs.Common.{◌≡◌, ℕ, suc, ◌+◌, ◌-◌, ◌<◌, ◌≤◌, min, ◌⊎◌, List, length, get_or, Some, IfSome, None, Option, sym, refl, subst, inl, inr, arith}
+use Rattle.std.proofs.lemmas.Bool.Decides.{nat_tests}
+use Rattle.std.proofs.lemmas.Bool.{cases_lt}
 use Rattle.envelope.specs.declared.Step.{Step}
 use Rattle.envelope.specs.Path.{cost_of, present, path_at, Cheapest, losses_in, largest_penalty}
 use Rattle.envelope.specs.Next.{Holds, crossing, sooner, Overtakes, Overtaken, Next, FitLoss, Fit, Small}
@@ -8,19 +9,7 @@ use Rattle.envelope.proofs.Named.{path_names_cheapest, clash, some_same}
 use Rattle.envelope.proofs.Prices.{later_cost_of, dearer, up, up_small, crosses_at, crosses_not}
 
 present_small : (x y : ℕ) → FitLoss x → present x ≡ Some y → y ≤ largest_penalty
-present_small x y f h = go (eqb x 18446744073709551615) refl f h
-  where
-    go : (b : Bool) → eqb x 18446744073709551615 ≡ b → FitLoss x → cond b None (Some x) ≡ Some y → y ≤ largest_penalty
-    go true e f h = clash (Some y) y refl (sym h)
-    go false e (inl l) h = let z : x ≡ y = cc in omega arith
-    go false e (inr l) h = absurd (eqb-false _ _ e l)
-
-pub present_cases : (x : ℕ) → ((y : ℕ) → present x ≡ Some y → y ≡ x)
-present_cases x y h = go (eqb x 18446744073709551615) h
-  where
-    go : (b : Bool) → cond b None (Some x) ≡ Some y → y ≡ x
-    go true h = clash (Some y) y refl (sym h)
-    go false h = cc
+present_small x y f h = grind (arith, nat_tests)
 
 pub small_loss : (row : List ℕ) → Fit row → (k m : ℕ) → k < length row → losses_in row k ≡ Some m → m ≤ largest_penalty
 small_loss row f k m b h = present_small (get_or row k 0) m (f.small k b) h
@@ -37,9 +26,6 @@ small_at row p k f b = go (path_at (losses_in row) p k) refl
         (omega arith, small_loss row f s.count s.loss (omega arith) u.held)
 
 module _ (losses : ℕ → Option ℕ) (n : ℕ) (s : Step) (u : Cheapest losses n s.penalty s) where
-  pub over_none : Overtaken losses s 0 None
-  over_none = λ i h. absurd (omega arith)
-
   last_below : {P : ℕ → Type 0} (j i : ℕ) → i < suc j → ((i : ℕ) → i < j → P i) → P j → P i
   last_below {P = P} j i h below here = go (cases_lt i j)
     where
@@ -192,9 +178,20 @@ module _ (losses : ℕ → Option ℕ) (n : ℕ) (s : Step) (u : Cheapest losses
             let a : s.penalty < q = after in
             absurd (omega (arith, h.no_worse, v.fewest h.by h.by_loss (omega arith) h.by_held, on q t.count t.loss (omega arith) b v.below v.held))
 
-pub dear_or_absent : (row : List ℕ) (n : ℕ) (s : Step) (j : ℕ) → Cheapest (losses_in row) n s.penalty s → j < s.count → (s.loss < get_or row j 0) ⊎ (get_or row j 0 ≡ 18446744073709551615)
-dear_or_absent row n s j u c = go (cases_eq (get_or row j 0) 18446744073709551615)
-  where
-    go : (get_or row j 0 ≡ 18446744073709551615) ⊎ (get_or row j 0 ≡ 18446744073709551615 → ⊥) → (s.loss < get_or row j 0) ⊎ (get_or row j 0 ≡ 18446744073709551615)
-    go (inl e) = inr e
-    go (inr e) = inl (dearer s.penalty s.count j s.loss (get_or row j 0) (omega arith) (u.fewest j (get_or row j 0) c (cond-false (eqb (get_or row j 0) 18446744073709551615) None (Some (get_or row j 0)) (ne_eqb _ _ e))))
+-- ---- the walk over the counts below the one that is cheapest
+module _ (row : List ℕ) (s : Step) (cheapest : path_at (losses_in row) s.penalty (length row) ≡ Some s) where
+  u : Cheapest (losses_in row) (length row) s.penalty s
+  u = ((path_names_cheapest (losses_in row) (length row) s.penalty).some s).0 cheapest
+
+  pub count_below : s.count < length row
+  count_below = u.below
+
+  pub fewer_dearer : (k : ℕ) (o : Option ℕ) → losses_in row k ≡ o → k < s.count → IfSome o (λ l. s.loss < l)
+  fewer_dearer k None e h = tt
+  fewer_dearer k (Some l) e h = dearer s.penalty s.count k s.loss l (omega arith) (u.fewest k l h e)
+
+  pub overtaken_more : Fit row → (k : ℕ) (o first : Option ℕ) → losses_in row k ≡ o → k < s.count → Overtaken (losses_in row) s k first → Overtaken (losses_in row) s (k + 1) (sooner first (crossing s k o))
+  overtaken_more fit k o first f h t =
+      let b : s.count < length row = count_below in
+      let e : suc k ≡ k + 1 = omega arith in
+      subst (λ j. Overtaken (losses_in row) s j (sooner first (crossing s k o))) e (over_more (losses_in row) (length row) s u k o first f h (λ m g. small_loss row fit k m (omega arith) g) t)

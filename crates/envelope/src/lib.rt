@@ -2,7 +2,7 @@
 // straight line over the penalty, loss + penalty * count, and the steps are the lower envelope of these lines.
 #![tactic(auto)]
 
-ghost use Rattle.std.specs.Prelude.{◌≡◌, ◌<◌, ◌≤◌, ◌⊎◌, length, Some, MatchResult};
+ghost use Rattle.std.specs.Prelude.{◌≡◌, ◌<◌, ◌≤◌, ◌⊎◌, length, Some, IfSome, MatchResult};
 ghost use Rattle.list.specs.Entries.{entries, places};
 ghost use Rattle.envelope.specs.Theorems.{PathNamesCheapest, OnePath, CountsFall, StepsBegin, OnlyCountsBelow};
 ghost use Rattle.envelope.specs.Path.{cost_of, better_count, present, path_at, path_steps, losses_in, largest_penalty};
@@ -22,71 +22,72 @@ pub struct Step {
 // Stands for the least loss of a count that no allowed division has.
 pub const ABSENT: u64 = u64::MAX;
 
-fn cost(penalty: u64, count: u16, loss: u64) -> u64
-    requires { (penalty ≤ largest_penalty) × ((count < 512) × (loss ≤ largest_penalty)) }
-    ensures { result ≡ cost_of penalty count loss }
-{
-    loss + penalty * u64::from(count)
+impl Step {
+    // What its boundaries cost at `penalty`.
+    fn cost_at(self, penalty: u64) -> u64
+        requires penalty { penalty ≤ largest_penalty }
+        requires small { Small (Some self) }
+        ensures { result ≡ cost_of penalty self.count self.loss }
+    {
+        self.loss + penalty * u64::from(self.count)
+    }
+
+    // The first penalty at which fewer boundaries, `count` with the loss `loss`, cost no more.
+    fn crossed_by(self, count: u16, loss: Option<u64>) -> Option<u64>
+        requires fewer { count < self.count }
+        requires dearer { IfSome loss (λ l. self.loss < l) }
+        ensures { result ≡ crossing self count loss }
+    {
+        Some((loss? - self.loss).div_ceil(u64::from(self.count - count)))
+    }
 }
 
-// The better of `best` and one more count.
-fn better(best: Option<Step>, penalty: u64, count: u16, loss: u64) -> Option<Step>
-    requires { (Small best) × ((penalty ≤ largest_penalty) × ((count < 512) × (FitLoss loss))) }
-    ensures { result ≡ better_count penalty best count (present loss) }
+// A loss as a caller's row holds it: none where it stands for an absent one.
+fn present_loss(loss: u64) -> Option<u64>
+    ensures { result ≡ present loss }
 {
-    if loss == ABSENT {
-        return best;
-    }
-    let this = Step {
-        penalty,
-        count,
-        loss,
-    };
+    (loss != ABSENT).then_some(loss)
+}
+
+// The better of the best so far and one more: the one so far where both cost as much.
+fn better(best: Option<Step>, this: Step) -> Step
+    requires penalty { this.penalty ≤ largest_penalty }
+    requires small { (Small best) × (Small (Some this)) }
+    ensures { Some result ≡ better_count this.penalty best this.count (Some this.loss) }
+{
     match best {
-        None => Some(this),
-        Some(s) => {
-            if cost(penalty, count, loss) < cost(penalty, s.count, s.loss) {
-                Some(this)
-            } else {
-                Some(s)
-            }
-        }
+        Some(s) if s.cost_at(this.penalty) <= this.cost_at(this.penalty) => s,
+        _ => this,
     }
 }
 
 // The count that is cheapest at `penalty`.
 fn best_at(losses: &[u64], penalty: u64) -> Option<Step>
-    requires { (Fit losses.now) × (penalty ≤ largest_penalty) }
+    requires fit { Fit losses.now }
+    requires penalty { penalty ≤ largest_penalty }
     ensures { result ≡ path_at (losses_in losses.now) penalty (length losses.now) }
 {
     let mut best = None;
-    for k in 0..losses.len() {
-        best = better(best, penalty, k as u16, losses[k]);
+    for (k, loss) in losses.iter().enumerate() {
+        if let Some(loss) = present_loss(*loss) {
+            let this = Step {
+                penalty,
+                count: k as u16,
+                loss,
+            };
+            best = Some(better(best, this));
+        }
     }
     best
 }
 
-// The first penalty at which `count`, smaller than that of `at`, costs no more.
-fn crosses(at: Step, count: u16, loss: u64) -> Option<u64>
-    requires count_lt_count { count < at.count }
-    requires fact { (at.loss < loss) ⊎ (loss ≡ 18446744073709551615) }
-    ensures { result ≡ crossing at count (present loss) }
-{
-    if loss == ABSENT {
-        return None;
-    }
-    Some((loss - at.loss).div_ceil(u64::from(at.count - count)))
-}
-
+// The lesser of those that there are.
 fn earlier(a: Option<u64>, b: Option<u64>) -> Option<u64>
     ensures { result ≡ sooner a b }
 {
-    match a {
-        None => b,
-        Some(x) => match b {
-            None => Some(x),
-            Some(y) => Some(x.min(y)),
-        },
+    match (a, b) {
+        (Some(x), Some(y)) => Some(x.min(y)),
+        _ => a.or(b),
     }
 }
 
@@ -97,8 +98,8 @@ fn overtaken(losses: &[u64], at: Step) -> Option<u64>
     ensures { Overtaken (losses_in losses.now) at at.count result }
 {
     let mut first = None;
-    for j in 0..at.count {
-        first = earlier(first, crosses(at, j, losses[usize::from(j)]));
+    for (k, loss) in losses[..usize::from(at.count)].iter().enumerate() {
+        first = earlier(first, at.crossed_by(k as u16, present_loss(*loss)));
     }
     first
 }
@@ -108,10 +109,7 @@ fn next_step(losses: &[u64], at: Step) -> Option<Step>
     requires best { path_at (losses_in losses.now) at.penalty (length losses.now) ≡ Some at }
     ensures { Next (losses_in losses.now) (length losses.now) at result }
 {
-    match overtaken(losses, at) {
-        None => None,
-        Some(penalty) => best_at(losses, penalty),
-    }
+    best_at(losses, overtaken(losses, at)?)
 }
 
 fn add(list: &mut List<Step>, s: Step)
@@ -149,34 +147,24 @@ pub fn steps(losses: &[u64], list: &mut List<Step>) -> Result<(), Fault>
     if list.capacity() < losses.len() {
         return Err(Fault::ShortBuffer);
     }
-    match best_at(losses, 0) {
-        None => Err(Fault::NoAllowedDivision),
-        Some(first) => {
-            write_steps(losses, first, list);
-            Ok(())
-        }
-    }
+    let first = best_at(losses, 0).ok_or(Fault::NoAllowedDivision)?;
+    write_steps(losses, first, list);
+    Ok(())
 }
 
 // At each penalty the path names the cheapest count, the fewest boundaries among equals.
-pub fn path_names_cheapest() -> u8
+pub fn path_names_cheapest()
     ensures { PathNamesCheapest }
-{
-    0
-}
+{}
 
 // Just one list of steps is the path.
-pub fn one_path() -> u8
+pub fn one_path()
     ensures { OnePath }
-{
-    0
-}
+{}
 
 // Counts never rise with the penalty, each step begins where its count first is cheapest, and only counts below n matter.
-pub fn steps_begin() -> u8
+pub fn steps_begin()
     ensures fall { CountsFall }
     ensures opening { StepsBegin }
     ensures same { OnlyCountsBelow }
-{
-    0
-}
+{}
