@@ -3,8 +3,8 @@ use Rattle.std.specs.Prelude.{◌≡◌, ◌∷◌, Some, Ok}
 use Rattle.loss.specs.Table.{Table}
 use Rattle.division.specs.declared.mark.Mark.{Mark}
 use Rattle.division.specs.Winner.{Criterion as Sought}
-use Rattle.line.specs.declared.Criterion.{Criterion}
-use Rattle.line.specs.Calls.{sought}
+use Rattle.cuts.specs.declared.criterion.Criterion.{Criterion}
+use Rattle.cuts.specs.Criterion.{sought}
 use Rattle.runs.specs.declared.model.Lent.{Lent}
 use Rattle.runs.specs.declared.model.Answer.{Answer}
 use Rattle.runs.specs.declared.model.Call.TheVariants.{Cut, Reopen}

@@ -5,7 +5,7 @@ use Rattle.loss.specs.Table.{Table}
 use Rattle.division.specs.declared.mark.Mark.{Mark}
 use Rattle.envelope.specs.declared.Step.{Step}
 use Rattle.line.specs.declared.Cut.{Cut as Cut-line}
-use Rattle.line.specs.declared.Criterion.{Criterion}
+use Rattle.cuts.specs.declared.criterion.Criterion.{Criterion}
 use Rattle.line.specs.Calls.{open_refusal, fresh}
 use Rattle.runs.specs.declared.model.Lent.{Lent}
 use Rattle.runs.specs.declared.model.Line.TheVariants.{Marking as marking, Cut as cut}

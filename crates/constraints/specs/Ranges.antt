@@ -7,7 +7,7 @@ use Rattle.constraints.specs.declared.StartRange.{StartRange}
 
 -- (a, b) may be a stretch
 abbrev pub permitted : Constraints → ℕ → ℕ → Type 0
-permitted c a b = Permitted (marks_of c.marks) c.shortest c.n a b
+permitted c a b = Permitted (marks_of c.marks.now) c.shortest c.n a b
 
 -- the start a is one of the range
 abbrev pub InRange : StartRange → ℕ → Type 0

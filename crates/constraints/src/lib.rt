@@ -10,10 +10,10 @@ use marks::table::MarkTable;
 
 // The length of the line, its shortest stretch and its marks.
 #[derive(Clone, Copy)]
-pub struct Constraints {
+pub struct Constraints<'a> {
     pub n: u16,
     pub shortest: u16,
-    pub marks: MarkTable,
+    pub marks: &'a MarkTable,
 }
 
 // The starts from `first` to `past` - 1.
@@ -22,6 +22,8 @@ pub struct StartRange {
     pub first: u16,
     pub past: u16,
 }
+
+const NO_START: StartRange = StartRange { first: 0, past: 0 };
 
 // The starts of the range from which the mark lets a stretch reach `end`, on a line of n readings.
 fn narrow(range: StartRange, mark: Mark, n: u16, end: u16) -> StartRange
@@ -32,30 +34,24 @@ fn narrow(range: StartRange, mark: Mark, n: u16, end: u16) -> StartRange
     let StartRange { first, past } = range;
     if mark.boundaries == 0 {
         if end < n && mark.first <= end && end < mark.last {
-            StartRange { first: 0, past: 0 }
+            NO_START
         } else {
             range
         }
     } else if mark.last <= end || end >= n {
-        if mark.first > first {
-            StartRange {
-                first: mark.first,
-                past,
-            }
-        } else {
-            range
-        }
-    } else if mark.first < past {
         StartRange {
-            first,
-            past: mark.first,
+            first: first.max(mark.first),
+            past,
         }
     } else {
-        range
+        StartRange {
+            first,
+            past: past.min(mark.first),
+        }
     }
 }
 
-impl Constraints {
+impl Constraints<'_> {
     // The starts that can precede `end`.
     pub fn starts_before(&self, end: u16) -> StartRange
         ensures exact { (a : ℕ) → InRange result a ↔ permitted self.now a end }
@@ -63,7 +59,7 @@ impl Constraints {
     {
         let shortest = self.shortest.max(1);
         if shortest > end {
-            return StartRange { first: 0, past: 0 };
+            return NO_START;
         }
         let mut range = StartRange {
             first: 0,
@@ -75,7 +71,7 @@ impl Constraints {
         if range.first < range.past {
             range
         } else {
-            StartRange { first: 0, past: 0 }
+            NO_START
         }
     }
 }

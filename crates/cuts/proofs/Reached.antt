@@ -1,5 +1,5 @@
 -- What a search that was not refused has found is the winner, with its total, and there is room for it.
-use Rattle.std.proofs.Common.{◌≡◌, ℕ, ◌+◌, ◌-◌, ◌*◌, ◌^◌, ◌≤◌, List, length, Some, None, Option, subst, arith}
+use Rattle.std.proofs.Common.{◌≡◌, ℕ, ◌+◌, ◌-◌, ◌*◌, ◌^◌, ◌≤◌, List, Some, None, Option, subst, arith}
 use Rattle.loss.specs.Table.{Table}
 use Rattle.division.specs.Stretches.{Permitted}
 use Rattle.division.specs.Winner.{by_penalty, by_count, winner, total}
@@ -8,17 +8,10 @@ use Rattle.marks.specs.Table.{marks_of}
 use Rattle.search.specs.Starts.{any_number, exactly}
 use Rattle.search.specs.Rows.{Found, part}
 use Rattle.cuts.specs.Outcome.{penalty_refusal, count_refusal}
+use Rattle.cuts.specs.Found.{Reached}
 use Rattle.cuts.proofs.Tallied.{total_tally, loss_tally}
 use Rattle.cuts.proofs.Joined.{penalty_none, penalty_some, count_none, count_some}
 use Rattle.cuts.proofs.Ready.{ready_by_penalty, ready_by_count, table_formed}
-
--- the list d is the winner, of the total t
-pub record Reached (w : Option (List ℕ)) (cost : List ℕ → ℕ) (trace places from end t : ℕ) (d : List ℕ) : Type 0 where
-  pub is : w ≡ Some d
-  pub costs : t ≡ cost d
-  pub bounded : t ≤ 2 ^ 58
-  pub order : (from ≤ end) × (end ≤ trace)
-  pub room : length d ≤ places
 
 module _ (T : Table) (n m : ℕ) (marks : MarkTable) where
   abbrev pub FoundByPenalty : ℕ → List ℕ → Option ((ℕ × ℕ) × ℕ) → Type 0
@@ -70,3 +63,8 @@ module _ (T : Table) (n m : ℕ) (marks : MarkTable) (numbers trace places : ℕ
         order = (said.4, ready.trace_room);
         room = omega (arith, won.2, ready.places_room);
       }
+
+-- a search leaves its trace as long as it was
+pub as_long : (w : Option (List ℕ)) (cost : List ℕ → ℕ) (trace trace' places from end t : ℕ) (d : List ℕ) → trace' ≡ trace → Reached w cost trace places from end t d → Reached w cost trace' places from end t d
+as_long w cost trace trace' places from end t d same h =
+    record { is = h.is; costs = h.costs; bounded = h.bounded; order = (h.order.0, omega (arith, h.order.1)); room = h.room }

@@ -3,8 +3,9 @@ use Rattle.std.proofs.Common.{◌≡◌, ℕ, ◌+◌, ◌-◌, ◌*◌, ◌^◌
 use Rattle.std.proofs.lemmas.Bool.Decides.{nat_tests}
 use Rattle.std.specs.List.{AllByRecursion}
 use Rattle.fault.specs.declared.Fault.{Fault}
-use Rattle.fault.specs.Refusal.{or_else}
+use Rattle.fault.specs.Refusal.{or_else, when}
 use Rattle.loss.specs.Table.{Table}
+use Rattle.loss.specs.Lines.{line_refusal}
 use Rattle.division.specs.declared.mark.Mark.{Mark}
 use Rattle.division.specs.Stretches.{WellFormed}
 use Rattle.marks.specs.declared.table.MarkTable.{MarkTable}
@@ -12,7 +13,7 @@ use Rattle.marks.specs.Table.{marks_of}
 use Rattle.marks.specs.Theorems.{Standing}
 use Rattle.marks.proofs.Stand.{every_table_stands}
 use Rattle.search.specs.Usable.{Usable}
-use Rattle.cuts.specs.Outcome.{when, line_refusal, room_refusal, penalty_refusal, count_refusal}
+use Rattle.cuts.specs.Outcome.{room_refusal, penalty_refusal, count_refusal}
 
 neither : (a b : Option Fault) → or_else a b ≡ None → (a ≡ None) × (b ≡ None)
 neither None b h = (refl, h)

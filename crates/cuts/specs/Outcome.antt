@@ -1,21 +1,12 @@
 -- What refuses a cut, and what a cut answers and does, from the refusal and the winner.
-use Rattle.std.specs.Prelude.{◌≡◌, ℕ, ◌+◌, ◌-◌, ◌*◌, ◌^◌, ◌≤◌, Bool, cond, List as Seq, ◌++◌, length, drop, IfOk, Some, None, Ok, Err, Option, Result, ◌==◌, nat_le, nat_lt}
+use Rattle.std.specs.Prelude.{◌≡◌, ℕ, ◌+◌, ◌-◌, ◌*◌, ◌^◌, ◌≤◌, List as Seq, ◌++◌, length, drop, IfOk, Some, None, Ok, Err, Option, Result, nat_le, nat_lt}
 use Rattle.list.specs.declared.List.{List}
 use Rattle.list.specs.Entries.{entries, places}
 use Rattle.fault.specs.declared.Fault.{Fault}
-use Rattle.fault.specs.declared.Fault.TheVariants.{BadPenalty, BadCount, BadStretch, TooManyReadings, NoAllowedDivision, ShortBuffer, TooHeavy, NoReading}
-use Rattle.fault.specs.Refusal.{or_else}
+use Rattle.fault.specs.declared.Fault.TheVariants.{BadPenalty, BadCount, NoAllowedDivision, ShortBuffer}
+use Rattle.fault.specs.Refusal.{or_else, when}
 use Rattle.loss.specs.Table.{Table}
-
--- the fault, where the test applies
-abbrev pub when : Bool → Fault → Option Fault
-when test f = cond test (Some f) None
-
--- Why a line of n readings cannot be cut over the loss: it is too heavy, there is no reading, there are too many, or the loss
--- does not stand for so many.
-abbrev pub line_refusal : Table → ℕ → Option Fault
-line_refusal t n =
-    or_else (when (nat_lt (2 ^ 40) t.ceiling) TooHeavy) (or_else (when (n == 0) NoReading) (or_else (when (nat_lt 512 n) TooManyReadings) (when (nat_lt t.length n) BadStretch)))
+use Rattle.loss.specs.Lines.{line_refusal}
 
 -- A search wants 3 (n + 1) numbers, so many rows of n + 1 starts, and n - 1 places for boundaries.
 abbrev pub room_refusal : ℕ → ℕ → ℕ → ℕ → ℕ → Option Fault

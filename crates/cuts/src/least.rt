@@ -9,28 +9,21 @@ ghost use Rattle.search.specs.Usable.{Usable};
 use constraints::Constraints;
 use fault::Fault;
 use loss::model::Loss;
-use marks::table::MarkTable;
 use search::least::least_losses;
 
 // For each k below n: the loss of the winner by count k, or the largest number where there is none, in number 2 (n + 1) + k.
 pub fn least_by_count<L: Loss>(
     loss: &L,
-    n: u16,
-    marks: &MarkTable,
-    shortest: u16,
+    constraints: &Constraints<'_>,
     numbers: &mut [u64],
 ) -> Result<(), Fault>
-    requires size { (0 < n) × (n ≤ 512) }
-    requires room { 3 * (n + 1) ≤ length numbers.old }
-    requires usable { Usable (L.table loss.now) n }
+    requires size { (0 < constraints.now.n) × (constraints.now.n ≤ 512) }
+    requires room { 3 * (constraints.now.n + 1) ≤ length numbers.old }
+    requires usable { Usable (L.table loss.now) constraints.now.n }
     ensures { MatchResult result
-        (λ _. ((k : ℕ) → k < n → loss_held numbers.new (2 * (n + 1) + k) ≡ option_map (total (by_count k) (L.table loss.now).loss n) (winner (by_count k) (L.table loss.now).loss (marks_of marks.now) shortest n)))
+        (λ _. ((k : ℕ) → k < constraints.now.n → loss_held numbers.new (2 * (constraints.now.n + 1) + k)
+        ≡ option_map (total (by_count k) (L.table loss.now).loss constraints.now.n) (winner (by_count k) (L.table loss.now).loss (marks_of constraints.now.marks.now) constraints.now.shortest constraints.now.n)))
         (λ e. ⊥) }
 {
-    let constraints = Constraints {
-        n,
-        shortest,
-        marks: *marks,
-    };
-    least_losses(loss, &constraints, n, numbers)
+    least_losses(loss, constraints, constraints.n, numbers)
 }

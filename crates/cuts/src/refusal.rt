@@ -1,16 +1,12 @@
 // What refuses a cut before the search is begun.
 ghost use Rattle.std.specs.Prelude.{◌≡◌};
 ghost use Rattle.fault.specs.Refusal.{RefusedFor};
-ghost use Rattle.cuts.specs.Outcome.{line_refusal, room_refusal, penalty_refusal, count_refusal};
+ghost use Rattle.cuts.specs.Outcome.{room_refusal, penalty_refusal, count_refusal};
 
 use fault::Fault;
-use loss::model::{HEAVIEST, Loss};
-
-// The most readings that a line has.
-pub const MOST_READINGS: u16 = 512;
-
-// The largest penalty for a boundary.
-pub const LARGEST_PENALTY: u64 = 1 << 49;
+use loss::check::check_line;
+use loss::limits::LARGEST_PENALTY;
+use loss::model::Loss;
 
 // How many numbers, starts and boundaries the caller has lent room for.
 #[derive(Clone, Copy)]
@@ -18,25 +14,6 @@ pub(crate) struct Room {
     pub(crate) numbers: usize,
     pub(crate) trace: usize,
     pub(crate) places: usize,
-}
-
-// Has the line between 1 and 512 readings, and does the loss stand for all of them?
-pub fn check_line<L: Loss>(loss: &L, n: u16) -> Result<(), Fault>
-    ensures { RefusedFor (line_refusal (L.table loss.now) n) result }
-{
-    if loss.ceiling() > HEAVIEST {
-        return Err(Fault::TooHeavy);
-    }
-    if n == 0 {
-        return Err(Fault::NoReading);
-    }
-    if n > MOST_READINGS {
-        return Err(Fault::TooManyReadings);
-    }
-    if loss.length() < n {
-        return Err(Fault::BadStretch);
-    }
-    Ok(())
 }
 
 // Is there room for a search with so many rows of the trace?

@@ -3,20 +3,14 @@ use Rattle.std.specs.Prelude.{ℕ, ◌-◌, ◌^◌, cond, ◌&&◌, List, Some,
 use Rattle.std.specs.List.{slice_get}
 use Rattle.fault.specs.declared.Fault.{Fault}
 use Rattle.fault.specs.declared.Fault.TheVariants.{BadShortest, TooManyReadings, TooHeavy, NoReading}
-use Rattle.fault.specs.Refusal.{or_else}
+use Rattle.fault.specs.Refusal.{or_else, when}
 use Rattle.loss.specs.Table.{Table}
 use Rattle.division.specs.declared.mark.Mark.{Mark}
-use Rattle.division.specs.Winner.{Criterion as Sought, by_penalty, by_count, winner, total}
-use Rattle.cuts.specs.Outcome.{when, penalty_refusal, count_refusal, outcome}
+use Rattle.division.specs.Winner.{Criterion as Sought, winner, total}
+use Rattle.cuts.specs.Outcome.{outcome}
+use Rattle.cuts.specs.Criterion.{refusal_of}
 use Rattle.line.specs.declared.Marking.{Marking}
 use Rattle.line.specs.declared.Cut.{Cut}
-use Rattle.line.specs.declared.Criterion.{Criterion}
-use Rattle.line.specs.declared.Criterion.TheVariants.{Penalty, Count}
-
--- what a criterion asks for
-abbrev pub sought : Criterion → Sought
-sought (Penalty p) = by_penalty p
-sought (Count k) = by_count k
 
 -- why no line can be opened over the loss, in this order: it is too heavy, there is no reading, there are more than 512
 abbrev pub open_refusal : Table → Option Fault
@@ -36,8 +30,7 @@ with_shortest m l = record { n = l.n; shortest = cond (nat_le 1 m && nat_le m l.
 
 -- why a cut is refused before any division is looked for, from the lent lengths of numbers, trace and boundaries
 abbrev pub cut_refusal : Sought → Table → Marking → ℕ → ℕ → ℕ → Option Fault
-cut_refusal (by_penalty p) t l numbers trace places = penalty_refusal t l.n p numbers trace places
-cut_refusal (by_count k) t l numbers trace places = count_refusal t l.n k numbers trace places
+cut_refusal c t l numbers trace places = refusal_of c t l.n numbers trace places
 
 -- the winning division of the line
 abbrev pub cut_winner : Sought → Table → List Mark → Marking → Option (List ℕ)

@@ -29,22 +29,17 @@ impl Cut {
     }
 
     // How many boundaries the division has.
-    pub fn count(&self, boundaries: &mut List<u16>) -> usize
-        ensures value { result ≡ length (entries boundaries.old) }
-        ensures same { boundaries.new ≡ boundaries.old }
+    pub fn count(&self, boundaries: &List<u16>) -> usize
+        ensures { result ≡ length (entries boundaries.now) }
     {
         boundaries.len()
     }
 
     // Boundary number i, counted from 1, if there is one.
-    pub fn boundary(&self, boundaries: &mut List<u16>, i: usize) -> Option<u16>
-        ensures value { result ≡ numbered (entries boundaries.old) i }
-        ensures same { boundaries.new ≡ boundaries.old }
+    pub fn boundary(&self, boundaries: &List<u16>, i: usize) -> Option<u16>
+        ensures { result ≡ numbered (entries boundaries.now) i }
     {
-        if i == 0 {
-            return None;
-        }
-        boundaries.get(i - 1)
+        boundaries.get(i.checked_sub(1)?)
     }
 
     // Gives the division up; marks and shortest stretch stay.

@@ -1,6 +1,8 @@
 // A line in its two states. The mark table, the lists, the buffers and the loss are lent at each call.
 #![tactic(auto)]
 
+pub use cuts::criterion::Criterion;
+
 mod cut_calls;
 mod marking_calls;
 
@@ -17,11 +19,4 @@ pub struct Cut {
     n: u16,
     shortest: u16,
     total: u64,
-}
-
-// What a cut is asked for: a penalty for each boundary, or a number of boundaries.
-#[derive(Clone, Copy, PartialEq, Eq, Debug)]
-pub enum Criterion {
-    Penalty(u64),
-    Count(u16),
 }

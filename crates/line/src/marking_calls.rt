@@ -6,50 +6,21 @@ ghost use Rattle.marks.specs.Marks.{laid, lifted, lay_refusal, lift_refusal};
 ghost use Rattle.marks.specs.Table.{marks_of};
 ghost use Rattle.path.specs.Outcome.{path_refusal, PathWritten};
 ghost use Rattle.cuts.specs.Outcome.{Cut as Cut-made};
-ghost use Rattle.line.specs.Calls.{sought, open_refusal, fresh, shortest_refusal, with_shortest, cut_refusal, cut_winner, cut_total, cut_outcome, cut_line};
+ghost use Rattle.cuts.specs.Criterion.{sought};
+ghost use Rattle.line.specs.Calls.{open_refusal, fresh, shortest_refusal, with_shortest, cut_refusal, cut_winner, cut_total, cut_outcome, cut_line};
 
 use crate::{Criterion, Cut, Marking};
-use cuts::cuts::{cut_by_count, cut_by_penalty};
-use cuts::refusal::check_line;
+use constraints::Constraints;
+use cuts::cuts::cut;
 use division::mark::Mark;
 use envelope::Step;
 use fault::Fault;
 use list::List;
+use loss::check::check_line;
 use loss::model::Loss;
 use marks::lent::{lay_in, lift_in};
 use marks::table::MarkTable;
 use path::path::path;
-
-// The winner by the criterion into the list, and its total.
-fn best_by<L: Loss>(
-    line: &Marking,
-    loss: &L,
-    marks: &MarkTable,
-    criterion: Criterion,
-    numbers: &mut [u64],
-    trace: &mut [u16],
-    boundaries: &mut List<u16>,
-) -> Result<u64, Fault>
-    ensures cut { Cut-made
-        (cut_refusal (sought criterion) (L.table loss.now) line.now (length numbers.old) (length trace.old) (length (places boundaries.old)))
-        (cut_winner (sought criterion) (L.table loss.now) (marks_of marks.now) line.now)
-        (cut_total (sought criterion) (L.table loss.now) line.now)
-        result boundaries.old boundaries.new numbers.old numbers.new trace.old trace.new }
-    ensures lender { boundaries.new.items.ghost_name ≡ boundaries.old.items.ghost_name }
-{
-    let n = line.n;
-    let shortest = line.shortest;
-    match criterion {
-        Criterion::Penalty(penalty) => {
-            cut_by_penalty(
-                loss, n, marks, shortest, penalty, numbers, trace, boundaries,
-            )
-        }
-        Criterion::Count(count) => {
-            cut_by_count(loss, n, marks, shortest, count, numbers, trace, boundaries)
-        }
-    }
-}
 
 impl Marking {
     // A fresh line over the loss: all its readings, no marks, and stretches of one reading or more.
@@ -75,6 +46,19 @@ impl Marking {
         ensures { result ≡ self.now.shortest }
     {
         self.shortest
+    }
+
+    // What the line's divisions are held to, with the marks that are lent.
+    fn constraints<'a>(&self, marks: &'a MarkTable) -> Constraints<'a>
+        ensures n { result.n ≡ self.now.n }
+        ensures shortest { result.shortest ≡ self.now.shortest }
+        ensures marks { result.marks.now ≡ marks.now }
+    {
+        Constraints {
+            n: self.n,
+            shortest: self.shortest,
+            marks,
+        }
     }
 
     // Lays a mark, and says how many then stand.
@@ -123,7 +107,7 @@ impl Marking {
         ensures lender { steps.new.items.ghost_name ≡ steps.old.items.ghost_name }
         ensures room { length (places steps.new) ≡ length (places steps.old) }
     {
-        path(loss, self.n, marks, self.shortest, numbers, steps)
+        path(loss, &self.constraints(marks), numbers, steps)
     }
 
     // Cuts the line: the winning division into the list of boundaries. Refused, the line comes back with the fault.
@@ -145,7 +129,8 @@ impl Marking {
             boundaries.old boundaries.new numbers.old numbers.new trace.old trace.new }
         ensures lender { boundaries.new.items.ghost_name ≡ boundaries.old.items.ghost_name }
     {
-        match best_by(&self, loss, marks, criterion, numbers, trace, boundaries) {
+        let constraints = self.constraints(marks);
+        match cut(loss, &constraints, criterion, numbers, trace, boundaries) {
             Ok(total) => {
                 let Marking { n, shortest } = self;
                 Ok(Cut { n, shortest, total })

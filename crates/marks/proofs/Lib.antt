@@ -1,7 +1,8 @@
 pub mod Laying
+pub mod Length
 pub mod Lifting
 pub mod Order
 pub mod Parts
-pub mod Pass
+pub mod Search
 pub mod Sharing
 pub mod Stand

@@ -7,7 +7,7 @@ use Rattle.division.specs.Theorems.{In}
 use Rattle.marks.specs.Theorems.{BeginFrom, Standing, OrderDecidesStanding, EveryTableStands, LaterMarksBeginLater, NoGapShared}
 use Rattle.marks.specs.Table.{marks_of}
 use Rattle.marks.proofs.Order.{begun, begin}
-use Rattle.marks.proofs.Pass.{length_marks}
+use Rattle.marks.proofs.Length.{length_marks}
 
 pub first_from : (low : ℕ) (ms : List Mark) → in_order low ms ≡ true → BeginFrom low ms
 first_from low [] h = tt

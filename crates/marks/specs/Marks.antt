@@ -1,5 +1,6 @@
 -- The marks of a line, first to last: which may stand together, and what laying one and lifting one gives.
-use Rattle.std.specs.Prelude.{ℕ, Bool, true, false, cond, ◌&&◌, ◌||◌, List, [], ◌∷◌, length, Some, None, Option, ◌==◌, nat_le, nat_lt}
+use Rattle.std.specs.Prelude.{ℕ, Bool, true, cond, ◌&&◌, List, [], ◌∷◌, length, Some, None, Option, ◌==◌, nat_le, nat_lt}
+use Rattle.std.specs.List.{list_any}
 use Rattle.fault.specs.declared.Fault.{Fault}
 use Rattle.fault.specs.declared.Fault.TheVariants.{BadMark, SharedGap, TooManyMarks, NoSuchMark}
 use Rattle.division.specs.declared.mark.Mark.{Mark}
@@ -14,8 +15,7 @@ shares_gap m x = nat_lt m.first x.last && nat_lt x.first m.last
 
 -- The mark shares a gap with one of the list.
 abbrev pub shares_any : Mark → List Mark → Bool
-shares_any m [] = false
-shares_any m (x ∷ xs) = shares_gap m x || shares_any m xs
+shares_any m ms = list_any (shares_gap m) ms
 
 -- Each mark covers a gap and holds one boundary or none; the first begins at `low` or later, each next one where the one before it ends or later.
 abbrev pub in_order : ℕ → List Mark → Bool
@@ -29,8 +29,7 @@ laid m (x ∷ xs) = cond (nat_lt m.first x.first) (m ∷ x ∷ xs) (x ∷ laid m
 
 -- One of the marks begins at the reading `first`.
 abbrev pub begins_at : ℕ → List Mark → Bool
-begins_at first [] = false
-begins_at first (x ∷ xs) = x.first == first || begins_at first xs
+begins_at first ms = list_any (λ x. x.first == first) ms
 
 -- The marks without the one that begins at the reading `first`.
 abbrev pub lifted : ℕ → List Mark → List Mark

@@ -40,10 +40,10 @@ found_is : (f : ℕ → ℕ → ℕ) (n p : ℕ) (w : Option (Seq ℕ)) → foun
 found_is f n p None = refl
 found_is f n p (Some d) = refl
 
-module _ (t : Table) (marks : Seq Mark) (m n : ℕ) (numbers numbers' : Seq ℕ) (old mid new : List Step) (r : Result (Unit {0}) Fault)
-    (same : mid ≡ old) (go : path_refusal t n (length numbers) (length (places old)) ≡ None) (wide : length numbers' ≡ length numbers) (left : Left t.loss marks m n numbers')
-    (value : r ≡ answer (length (row_of n numbers')) (length (places mid)) (path_at (losses_in (row_of n numbers')) 0 (length (row_of n numbers'))))
-    (cases : MatchResult r (λ _. Holding (path_steps (losses_in (row_of n numbers')) (length (row_of n numbers'))) mid new) (λ _. new ≡ mid)) where
+module _ (t : Table) (marks : Seq Mark) (m n : ℕ) (numbers numbers' : Seq ℕ) (old new : List Step) (r : Result (Unit {0}) Fault)
+    (go : path_refusal t n (length numbers) (length (places old)) ≡ None) (wide : length numbers' ≡ length numbers) (left : Left t.loss marks m n numbers')
+    (value : r ≡ answer (length (row_of n numbers')) (length (places old)) (path_at (losses_in (row_of n numbers')) 0 (length (row_of n numbers'))))
+    (cases : MatchResult r (λ _. Holding (path_steps (losses_in (row_of n numbers')) (length (row_of n numbers'))) old new) (λ _. new ≡ old)) where
   long : length (row_of n numbers') ≡ n
   long = row_length n numbers' (omega (arith, (begun t n (length numbers) (length (places old)) go).numbers_room, wide))
 
@@ -56,8 +56,8 @@ module _ (t : Table) (marks : Seq Mark) (m n : ℕ) (numbers numbers' : Seq ℕ)
   best_is : path_at (losses_in (row_of n numbers')) 0 (length (row_of n numbers')) ≡ as_step t.loss n 0 (winner (by_penalty 0) t.loss marks m n)
   best_is = ap (path_at (losses_in (row_of n numbers')) 0) long ∙ path_at_same (losses_in (row_of n numbers')) (least_loss t.loss marks m n) 0 n row_is ∙ path_names_the_cut t.loss 0 marks m n
 
-  roomy : ltb (length (places mid)) (length (row_of n numbers')) ≡ false
-  roomy = le-ltb _ _ (omega (arith, long, (begun t n (length numbers) (length (places old)) go).list_room, ap (λ (l : List Step). length (places l)) same))
+  roomy : ltb (length (places old)) (length (row_of n numbers')) ≡ false
+  roomy = le-ltb _ _ (omega (arith, long, (begun t n (length numbers) (length (places old)) go).list_room))
 
   outcome_is : r ≡ path_outcome None (winner (by_penalty 0) t.loss marks m n)
   outcome_is =
@@ -67,18 +67,18 @@ module _ (t : Table) (marks : Seq Mark) (m n : ℕ) (numbers numbers' : Seq ℕ)
   abbrev Done : Result (Unit {0}) Fault → Type 0
   Done q = (q ≡ Ok tt → entries new ≡ line_path t.loss marks m n) × (drop (length (entries new)) (places new) ≡ drop (length (entries new)) (places old)) × ((e : Fault) → q ≡ Err e → new ≡ old) × (new.items.ghost_name ≡ old.items.ghost_name)
 
-  done : (q : Result (Unit {0}) Fault) → MatchResult q (λ _. Holding (path_steps (losses_in (row_of n numbers')) (length (row_of n numbers'))) mid new) (λ _. new ≡ mid) → Done q
+  done : (q : Result (Unit {0}) Fault) → MatchResult q (λ _. Holding (path_steps (losses_in (row_of n numbers')) (length (row_of n numbers'))) old new) (λ _. new ≡ old) → Done q
   done (Ok u) h = (
     (λ _. h.entries_are ∙ path_is),
-    subst (λ (xs : Seq Step). drop (length xs) (places new) ≡ drop (length xs) (places mid)) (sym h.entries_are) h.past ∙ ap (λ (l : List Step). drop (length (entries new)) (places l)) same,
+    subst (λ (xs : Seq Step). drop (length xs) (places new) ≡ drop (length xs) (places old)) (sym h.entries_are) h.past,
     (λ e z. let o : ◌≡◌ {A = ℕ} 0 1 = cc in absurd (omega arith)),
-    h.lender ∙ ap (λ (l : List Step). l.items.ghost_name) same,
+    h.lender,
   )
   done (Err f) h = (
     (λ z. let o : ◌≡◌ {A = ℕ} 0 1 = cc in absurd (omega arith)),
-    ap (λ (l : List Step). drop (length (entries new)) (places l)) (h ∙ same),
-    (λ e z. h ∙ same),
-    ap (λ (l : List Step). l.items.ghost_name) (h ∙ same),
+    ap (λ (l : List Step). drop (length (entries new)) (places l)) h,
+    (λ e z. h),
+    ap (λ (l : List Step). l.items.ghost_name) h,
   )
 
   pub written : PathWritten (path_refusal t n (length numbers) (length (places old))) t.loss marks m n r old new numbers numbers'

@@ -2,13 +2,13 @@
 use Rattle.std.specs.Prelude.{◌≡◌, ℕ, ◌+◌, ◌*◌, List as Seq, length, drop, Some, None, Ok, Err, Option, Result, nat_lt}
 use Rattle.fault.specs.declared.Fault.{Fault}
 use Rattle.fault.specs.declared.Fault.TheVariants.{NoAllowedDivision, ShortBuffer}
-use Rattle.fault.specs.Refusal.{or_else}
+use Rattle.fault.specs.Refusal.{or_else, when}
 use Rattle.loss.specs.Table.{Table}
+use Rattle.loss.specs.Lines.{line_refusal}
 use Rattle.list.specs.declared.List.{List}
 use Rattle.list.specs.Entries.{entries, places}
 use Rattle.division.specs.declared.mark.Mark.{Mark}
 use Rattle.division.specs.Winner.{by_penalty, winner}
-use Rattle.cuts.specs.Outcome.{when, line_refusal}
 use Rattle.envelope.specs.declared.Step.{Step}
 use Rattle.path.specs.Cuts.{line_path, NamesEveryCut}
 

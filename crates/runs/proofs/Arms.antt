@@ -19,8 +19,9 @@ use Rattle.path.specs.Outcome.{path_refusal, path_outcome, PathWritten}
 use Rattle.cuts.specs.Outcome.{outcome, entries_after, places_after, Cut as Cut-made}
 use Rattle.line.specs.declared.Marking.{Marking}
 use Rattle.line.specs.declared.Cut.{Cut as Cut-line}
-use Rattle.line.specs.declared.Criterion.{Criterion}
-use Rattle.line.specs.Calls.{sought, cut_refusal, cut_winner, cut_total, cut_outcome, cut_line}
+use Rattle.cuts.specs.declared.criterion.Criterion.{Criterion}
+use Rattle.cuts.specs.Criterion.{sought}
+use Rattle.line.specs.Calls.{cut_refusal, cut_winner, cut_total, cut_outcome, cut_line}
 use Rattle.runs.specs.declared.model.Lent.{Lent}
 use Rattle.runs.specs.declared.model.Line.{Line}
 use Rattle.runs.specs.declared.model.Line.TheVariants.{Marking as marking, Cut as cut}

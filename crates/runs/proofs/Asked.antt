@@ -10,7 +10,8 @@ use Rattle.division.specs.Winner.{Criterion as Sought, by_penalty, by_count, Can
 use Rattle.division.proofs.Best.{winner_wins}
 use Rattle.path.specs.Outcome.{path_refusal}
 use Rattle.line.specs.declared.Marking.{Marking}
-use Rattle.line.specs.Calls.{sought, open_refusal, cut_refusal}
+use Rattle.cuts.specs.Criterion.{sought}
+use Rattle.line.specs.Calls.{open_refusal, cut_refusal}
 use Rattle.runs.specs.declared.model.Line.{Line}
 use Rattle.runs.specs.declared.model.Line.TheVariants.{Marking as marking, Cut as cut}
 use Rattle.runs.specs.declared.model.Call.{Call}

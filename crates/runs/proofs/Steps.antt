@@ -11,8 +11,9 @@ use Rattle.path.specs.Cuts.{line_path, NamesEveryCut}
 use Rattle.path.proofs.Named.{steps_name_every_cut}
 use Rattle.line.specs.declared.Marking.{Marking}
 use Rattle.line.specs.declared.Cut.{Cut as Cut-line}
-use Rattle.line.specs.declared.Criterion.{Criterion}
-use Rattle.line.specs.Calls.{sought, open_refusal, cut_refusal}
+use Rattle.cuts.specs.declared.criterion.Criterion.{Criterion}
+use Rattle.cuts.specs.Criterion.{sought}
+use Rattle.line.specs.Calls.{open_refusal, cut_refusal}
 use Rattle.runs.specs.declared.model.Lent.{Lent}
 use Rattle.runs.specs.declared.model.Line.{Line}
 use Rattle.runs.specs.declared.model.Line.TheVariants.{Marking as marking, Cut as cut}

@@ -114,14 +114,7 @@ begun t numbers trace calls places₀ r b s l table none fresh-line roomy empty 
     none_yet = refl
 
 module _ (t : Table) (numbers trace : ℕ) (calls : List Call) (i : ℕ) (r₀ r : Lent-list (Result Answer Fault)) (b₀ b : Lent-list ℕ) (s₀ s : Lent-list Step) (line : Line) (table : MarkTable) (w : Underway t numbers trace calls i r₀ r b₀ b s₀ s line table) where
-  -- whoever looks leaves the lists as they are
-  pub looked : (r' : Lent-list (Result Answer Fault)) (b' : Lent-list ℕ) (s' : Lent-list Step) → r' ≡ r → b' ≡ b → s' ≡ s → Underway t numbers trace calls i r₀ r' b₀ b' s₀ s' line table
-  looked r' b' s' x y z =
-      subst (λ (a : Lent-list (Result Answer Fault)). Underway t numbers trace calls i r₀ a b₀ b' s₀ s' line table) (sym x)
-      (subst (λ (a : Lent-list ℕ). Underway t numbers trace calls i r₀ r b₀ a s₀ s' line table) (sym y)
-      (subst (λ (a : Lent-list Step). Underway t numbers trace calls i r₀ r b₀ b s₀ a line table) (sym z) w))
-
-  -- and sees the law hold
+  -- whoever looks sees the law hold
   pub lawful : BestAfter t (room_of numbers trace b s) (history (take i calls) (entries r)) (view line b s)
   lawful = subst (λ (x : Room). BestAfter t x (history (take i calls) (entries r)) (view line b s)) (same_room numbers trace b₀ b s₀ s w.boundaries w.steps) w.kept.law
 

@@ -11,7 +11,7 @@ use Rattle.division.specs.Theorems.{In}
 use Rattle.marks.specs.Theorems.{Standing}
 use Rattle.envelope.specs.declared.Step.{Step}
 use Rattle.path.specs.Cuts.{NamesEveryCut}
-use Rattle.line.specs.Calls.{sought}
+use Rattle.cuts.specs.Criterion.{sought}
 use Rattle.runs.specs.declared.model.Line.{Line}
 use Rattle.runs.specs.declared.model.Line.TheVariants.{Marking as marking, Cut as cut}
 use Rattle.runs.specs.declared.model.Call.{Call}

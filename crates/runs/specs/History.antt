@@ -3,7 +3,7 @@ use Rattle.std.specs.Prelude.{ℕ, Bool, true, false, cond, ◌&&◌, List, [], 
 use Rattle.fault.specs.declared.Fault.{Fault}
 use Rattle.division.specs.declared.mark.Mark.{Mark}
 use Rattle.division.specs.Winner.{Criterion as Sought}
-use Rattle.line.specs.Calls.{sought}
+use Rattle.cuts.specs.Criterion.{sought}
 use Rattle.runs.specs.declared.model.Call.{Call}
 use Rattle.runs.specs.declared.model.Call.TheVariants.{Mark as Lay, Unmark, Shortest, Path, Cut, Reopen}
 use Rattle.runs.specs.declared.model.Answer.{Answer}

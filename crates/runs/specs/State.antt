@@ -15,7 +15,8 @@ use Rattle.envelope.specs.declared.Step.{Step}
 use Rattle.path.specs.Cuts.{line_path}
 use Rattle.path.specs.Outcome.{path_refusal}
 use Rattle.line.specs.declared.Marking.{Marking}
-use Rattle.line.specs.Calls.{sought, shortest_refusal, cut_refusal, cut_winner}
+use Rattle.cuts.specs.Criterion.{sought}
+use Rattle.line.specs.Calls.{shortest_refusal, cut_refusal, cut_winner}
 use Rattle.runs.specs.declared.model.Line.{Line}
 use Rattle.runs.specs.declared.model.Line.TheVariants.{Marking as marking, Cut as cut}
 use Rattle.runs.specs.declared.model.Call.{Call}

@@ -26,16 +26,13 @@ pub trait Watch {
         &mut self,
         loss: &L,
         calls: &[Call],
-        replies: &mut List<Reply>,
+        replies: &List<Reply>,
         line: &Line,
-        boundaries: &mut List<u16>,
-        steps: &mut List<Step>,
+        boundaries: &List<u16>,
+        steps: &List<Step>,
         lent: Lent,
     )
-        requires { BestAfter (L.table loss.now) (room_of lent.numbers lent.trace boundaries.old steps.old) (history calls.now (entries replies.old)) (view line.now boundaries.old steps.old) }
-        ensures replies { replies.new ≡ replies.old }
-        ensures boundaries { boundaries.new ≡ boundaries.old }
-        ensures steps { steps.new ≡ steps.old };
+        requires { BestAfter (L.table loss.now) (room_of lent.numbers lent.trace boundaries.now steps.now) (history calls.now (entries replies.now)) (view line.now boundaries.now steps.now) };
 }
 
 // A fresh line over the loss, no marks, and no replies yet.
@@ -88,7 +85,7 @@ pub fn replay_watched<L: Loss, W: Watch>(
         trace: trace.len(),
     };
     for i in 0..calls.len() {
-        watcher.look(loss, &calls[0..i], replies, &line, boundaries, steps, lent);
+        watcher.look(loss, &calls[..i], replies, &line, boundaries, steps, lent);
         let (next, reply) = perform(
             line, calls[i], loss, marks, boundaries, steps, numbers, trace,
         );

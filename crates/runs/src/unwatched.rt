@@ -25,10 +25,10 @@ impl Watch for Unwatched {
         &mut self,
         _loss: &L,
         _calls: &[Call],
-        _replies: &mut List<Reply>,
+        _replies: &List<Reply>,
         _line: &Line,
-        _boundaries: &mut List<u16>,
-        _steps: &mut List<Step>,
+        _boundaries: &List<u16>,
+        _steps: &List<Step>,
         _lent: Lent,
     ) {}
 }

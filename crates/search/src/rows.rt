@@ -4,9 +4,8 @@ ghost use Rattle.tally.specs.Order.{tallying};
 ghost use Rattle.constraints.specs.Ranges.{permitted};
 ghost use Rattle.search.specs.Starts.{any_number, exactly};
 ghost use Rattle.search.specs.Rows.{Picked, smaller, value_of, start_of, Row, NextRow, kept_start};
-ghost use Rattle.search.specs.Usable.{Usable};
 
-use constraints::Constraints;
+use crate::Search;
 use fault::Fault;
 use loss::model::Loss;
 use tally::model::Tally;
@@ -21,45 +20,9 @@ fn pick<T: Tally>(
     ensures { result ≡ smaller T.below best v start }
 {
     match best {
-        Some((w, earlier)) => {
-            if tally.less(w, v) {
-                Some((w, earlier))
-            } else {
-                Some((v, start))
-            }
-        }
-        None => Some((v, start)),
+        Some((w, earlier)) if tally.less(w, v) => Some((w, earlier)),
+        _ => Some((v, start)),
     }
-}
-
-// Over the starts that can precede `end` and have an entry in the row at `base`: the least tally, and of equals the latest start.
-pub fn best_start<L: Loss, T: Tally>(
-    loss: &L,
-    tally: &T,
-    constraints: &Constraints,
-    rows: &[u64],
-    base: usize,
-    end: u16,
-) -> Result<Option<(T::Value, u16)>, Fault>
-    requires size { end ≤ 512 }
-    requires near { base ≤ 1000000 }
-    requires room { T.stride * (base + end) ≤ length rows.now }
-    requires usable { Usable (L.table loss.now) end }
-    requires small { (a : ℕ) → a < end → IfSome (T.held rows.now (base + a)) (λ v. T.fits a v) }
-    ensures { MatchResult result
-        (λ o. Picked (tallying T.zero T.added T.below tally.now (L.table loss.now).loss) (λ a. permitted constraints.now a end) (λ a. T.held rows.now (base + a)) end end o
-        × IfSome o (λ p. T.fits end p.0))
-        (λ e. ⊥) }
-{
-    let range = constraints.starts_before(end);
-    let mut best = None;
-    for start in range.first..range.past {
-        if let Some(before) = tally.load(rows, base + start as usize) {
-            let lost = loss.stretch(start, end)?;
-            best = pick(tally, best, tally.add(before, start, lost), start);
-        }
-    }
-    Ok(best)
 }
 
 // Keeps a start in the trace at j; a trace that does not reach so far stays as it is.
@@ -86,135 +49,119 @@ fn write_entry<T: Tally>(
     ensures others { (k : ℕ) → (k ≢ i) → T.held rows.new k ≡ T.held rows.old k }
     ensures traced { trace.new ≡ slice_set trace.old j (start_of found) }
 {
-    match found {
-        Some((v, start)) => {
-            tally.put(rows, i, Some(v));
-            keep_start(trace, j, start);
+    tally.put(rows, i, found.map(|(v, _)| v));
+    keep_start(trace, j, found.map_or(0, |(_, start)| start));
+}
+
+impl<L: Loss, T: Tally> Search<'_, L, T> {
+    // Over the starts that can precede `end` and have an entry in the row at `base`: the least tally, and of equals the latest start.
+    pub fn best_start(
+        &self,
+        rows: &[u64],
+        base: usize,
+        end: u16,
+    ) -> Result<Option<(T::Value, u16)>, Fault>
+        requires within { end ≤ self.now.n }
+        requires near { base ≤ 1000000 }
+        requires room { T.stride * (base + end) ≤ length rows.now }
+        requires small { (a : ℕ) → a < end → IfSome (T.held rows.now (base + a)) (λ v. T.fits a v) }
+        ensures { MatchResult result
+            (λ o. Picked (tallying T.zero T.added T.below self.now.tally.now (L.table self.now.loss.now).loss) (λ a. permitted self.now.constraints a end) (λ a. T.held rows.now (base + a)) end end o
+            × IfSome o (λ p. T.fits end p.0))
+            (λ e. ⊥) }
+    {
+        let range = self.constraints.starts_before(end);
+        let mut best = None;
+        for start in range.first..range.past {
+            if let Some(before) = self.tally.load(rows, base + start as usize) {
+                let lost = self.loss.stretch(start, end)?;
+                best = pick(self.tally, best, self.tally.add(before, start, lost), start);
+            }
         }
-        None => {
-            tally.put(rows, i, None);
-            keep_start(trace, j, 0);
+        Ok(best)
+    }
+
+    // Every entry of the row 0..=n, each from those before it; the trace keeps the last start of each.
+    pub fn fill_row(&self, rows: &mut [u64], trace: &mut [u16]) -> Result<(), Fault>
+        requires room { T.stride * (self.now.n + 1) ≤ length rows.old }
+        requires trace { self.now.n < length trace.old }
+        ensures { MatchResult result
+            (λ _. Row (tallying T.zero T.added T.below self.now.tally.now (L.table self.now.loss.now).loss) (any_number (permitted self.now.constraints)) (λ _ t. slice_index trace.new t) tt (T.held rows.new) (self.now.n + 1)
+            × ((a : ℕ) → a < self.now.n + 1 → IfSome (T.held rows.new a) (λ v. T.fits a v)))
+            (λ e. ⊥) }
+    {
+        self.tally.put(rows, 0, Some(self.tally.nothing()));
+        for end in 1..self.n + 1 {
+            let found = self.best_start(rows, 0, end)?;
+            write_entry(self.tally, rows, end as usize, trace, end as usize, found);
+        }
+        Ok(())
+    }
+
+    // The row of no stretch at all: an entry at 0, and no other.
+    pub(crate) fn first_row(&self, rows: &mut [u64])
+        requires { T.stride * (self.now.n + 1) ≤ length rows.old }
+        ensures first { T.held rows.new 0 ≡ Some T.zero }
+        ensures absent { (t : ℕ) → 0 < t → t < self.now.n + 1 → T.held rows.new t ≡ None }
+    {
+        self.tally.put(rows, 0, Some(self.tally.nothing()));
+        for end in 0..self.n {
+            self.tally.put(rows, end as usize + 1, None);
         }
     }
-}
 
-// Every entry of the row 0..=n, each from those before it; the trace keeps the last start of each.
-pub fn fill_row<L: Loss, T: Tally>(
-    loss: &L,
-    tally: &T,
-    constraints: &Constraints,
-    n: u16,
-    rows: &mut [u64],
-    trace: &mut [u16],
-) -> Result<(), Fault>
-    requires size { n ≤ 512 }
-    requires room { T.stride * (n + 1) ≤ length rows.old }
-    requires trace { n < length trace.old }
-    requires usable { Usable (L.table loss.now) n }
-    ensures { MatchResult result
-        (λ _. Row (tallying T.zero T.added T.below tally.now (L.table loss.now).loss) (any_number (permitted constraints.now)) (λ _ t. slice_index trace.new t) tt (T.held rows.new) (n + 1)
-        × ((a : ℕ) → a < n + 1 → IfSome (T.held rows.new a) (λ v. T.fits a v)))
-        (λ e. ⊥) }
-{
-    tally.put(rows, 0, Some(tally.nothing()));
-    for end in 1..n + 1 {
-        let found = best_start(loss, tally, constraints, rows, 0, end)?;
-        write_entry(tally, rows, end as usize, trace, end as usize, found);
+    // The row at `dst`, of one stretch more, from the row at `src`; the trace, if it reaches so far, keeps the last starts from `place` on.
+    pub(crate) fn next_row(
+        &self,
+        rows: &mut [u64],
+        src: usize,
+        dst: usize,
+        trace: &mut [u16],
+        place: usize,
+    ) -> Result<(), Fault>
+        requires near { (src ≤ 1000) × (dst ≤ 1000) × (place ≤ 1000000) }
+        requires apart { (src + self.now.n < dst) ⊎ (dst + self.now.n < src) }
+        requires source { T.stride * (src + (self.now.n + 1)) ≤ length rows.old }
+        requires target { T.stride * (dst + (self.now.n + 1)) ≤ length rows.old }
+        requires small { (a : ℕ) → a < self.now.n + 1 → IfSome (T.held rows.old (src + a)) (λ v. T.fits a v) }
+        ensures { MatchResult result
+            (λ _. NextRow (tallying T.zero T.added T.below self.now.tally.now (L.table self.now.loss.now).loss) (permitted self.now.constraints) T.fits (λ a. T.held rows.old (src + a)) (λ a. T.held rows.new (dst + a))
+            (λ t a. place + t < length trace.old → slice_index trace.new (place + t) ≡ a) (self.now.n + 1)
+            × ((k : ℕ) → k < place → slice_index trace.new k ≡ slice_index trace.old k)
+            × ((k : ℕ) → (k < dst) ⊎ (dst + self.now.n < k) → T.held rows.new k ≡ T.held rows.old k))
+            (λ e. ⊥) }
+    {
+        for end in 0..self.n + 1 {
+            let at = end as usize;
+            let found = self.best_start(rows, src, end)?;
+            write_entry(self.tally, rows, dst + at, trace, place + at, found);
+        }
+        Ok(())
     }
-    Ok(())
-}
 
-// The row of no stretch at all: an entry at 0, and no other.
-pub(crate) fn first_row<T: Tally>(tally: &T, n: u16, rows: &mut [u64])
-    requires { T.stride * (n + 1) ≤ length rows.old }
-    ensures first { T.held rows.new 0 ≡ Some T.zero }
-    ensures absent { (t : ℕ) → 0 < t → t < n + 1 → T.held rows.new t ≡ None }
-{
-    tally.put(rows, 0, Some(tally.nothing()));
-    for end in 0..n {
-        tally.put(rows, end as usize + 1, None);
+    // The rows of no stretch up to `stretches` of them, in two places by turns: gives where the last one stands.
+    pub fn fill_rows(
+        &self,
+        stretches: u16,
+        rows: &mut [u64],
+        trace: &mut [u16],
+    ) -> Result<usize, Fault>
+        requires count { stretches ≤ 512 }
+        requires room { T.stride * ((self.now.n + 1) + (self.now.n + 1)) ≤ length rows.old }
+        requires trace { stretches * (self.now.n + 1) ≤ length trace.old }
+        ensures { MatchResult result
+            (λ base. (base ≤ self.now.n + 1) × Row (tallying T.zero T.added T.below self.now.tally.now (L.table self.now.loss.now).loss) (exactly (permitted self.now.constraints)) (kept_start trace.new (self.now.n + 1)) stretches (λ a. T.held rows.new (base + a)) (self.now.n + 1)
+            × ((a : ℕ) → a < self.now.n + 1 → IfSome (T.held rows.new (base + a)) (λ v. T.fits a v)))
+            (λ e. ⊥) }
+    {
+        self.first_row(rows);
+        let width = self.n as usize + 1;
+        let mut src = 0;
+        let mut dst = width;
+        for s in 0..stretches {
+            self.next_row(rows, src, dst, trace, s as usize * width)?;
+            (src, dst) = (dst, src);
+        }
+        Ok(src)
     }
-}
-
-// The row at `dst`, of one stretch more, from the row at `src`; the trace, if it reaches so far, keeps the last starts from `place` on.
-pub(crate) fn next_row<L: Loss, T: Tally>(
-    loss: &L,
-    tally: &T,
-    constraints: &Constraints,
-    n: u16,
-    rows: &mut [u64],
-    src: usize,
-    dst: usize,
-    trace: &mut [u16],
-    place: usize,
-) -> Result<(), Fault>
-    requires size { n ≤ 512 }
-    requires near { (src ≤ 1000) × (dst ≤ 1000) × (place ≤ 1000000) }
-    requires apart { (src + n < dst) ⊎ (dst + n < src) }
-    requires source { T.stride * (src + (n + 1)) ≤ length rows.old }
-    requires target { T.stride * (dst + (n + 1)) ≤ length rows.old }
-    requires usable { Usable (L.table loss.now) n }
-    requires small { (a : ℕ) → a < n + 1 → IfSome (T.held rows.old (src + a)) (λ v. T.fits a v) }
-    ensures { MatchResult result
-        (λ _. NextRow (tallying T.zero T.added T.below tally.now (L.table loss.now).loss) (permitted constraints.now) T.fits (λ a. T.held rows.old (src + a)) (λ a. T.held rows.new (dst + a))
-        (λ t a. place + t < length trace.old → slice_index trace.new (place + t) ≡ a) (n + 1)
-        × ((k : ℕ) → k < place → slice_index trace.new k ≡ slice_index trace.old k)
-        × ((k : ℕ) → (k < dst) ⊎ (dst + n < k) → T.held rows.new k ≡ T.held rows.old k))
-        (λ e. ⊥) }
-{
-    for end in 0..n + 1 {
-        let found = best_start(loss, tally, constraints, rows, src, end)?;
-        write_entry(
-            tally,
-            rows,
-            dst + end as usize,
-            trace,
-            place + end as usize,
-            found,
-        );
-    }
-    Ok(())
-}
-
-// The rows of no stretch up to `stretches` of them, in two places by turns: gives where the last one stands.
-pub fn fill_rows<L: Loss, T: Tally>(
-    loss: &L,
-    tally: &T,
-    constraints: &Constraints,
-    n: u16,
-    stretches: u16,
-    rows: &mut [u64],
-    trace: &mut [u16],
-) -> Result<usize, Fault>
-    requires size { n ≤ 512 }
-    requires count { stretches ≤ 512 }
-    requires room { T.stride * ((n + 1) + (n + 1)) ≤ length rows.old }
-    requires trace { stretches * (n + 1) ≤ length trace.old }
-    requires usable { Usable (L.table loss.now) n }
-    ensures { MatchResult result
-        (λ base. (base ≤ n + 1) × Row (tallying T.zero T.added T.below tally.now (L.table loss.now).loss) (exactly (permitted constraints.now)) (kept_start trace.new (n + 1)) stretches (λ a. T.held rows.new (base + a)) (n + 1)
-        × ((a : ℕ) → a < n + 1 → IfSome (T.held rows.new (base + a)) (λ v. T.fits a v)))
-        (λ e. ⊥) }
-{
-    first_row(tally, n, rows);
-    let width = n as usize + 1;
-    let mut src = 0;
-    let mut dst = width;
-    for s in 0..stretches {
-        next_row(
-            loss,
-            tally,
-            constraints,
-            n,
-            rows,
-            src,
-            dst,
-            trace,
-            s as usize * width,
-        )?;
-        let was = src;
-        src = dst;
-        dst = was;
-    }
-    Ok(src)
 }

@@ -10,7 +10,7 @@ use Rattle.marks.specs.declared.table.MarkTable.{MarkTable}
 use Rattle.marks.specs.Table.{marks_of}
 use Rattle.envelope.specs.declared.Step.{Step}
 use Rattle.line.specs.Calls.{open_refusal, fresh}
-use Rattle.line.specs.declared.Criterion.TheVariants.{Penalty, Count}
+use Rattle.cuts.specs.declared.criterion.Criterion.TheVariants.{Penalty, Count}
 use Rattle.runs.specs.declared.model.Lent.{Lent}
 use Rattle.runs.specs.declared.model.Line.{Line}
 use Rattle.runs.specs.declared.model.Line.TheVariants.{Marking as marking}

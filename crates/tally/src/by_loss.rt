@@ -55,9 +55,6 @@ impl Tally for ByLoss {
         ensures here { loss_held rows.new i ≡ v }
         ensures others { (j : ℕ) → (j ≢ i) → loss_held rows.new j ≡ loss_held rows.old j }
     {
-        rows[i] = match v {
-            Some(x) => x,
-            None => u64::MAX,
-        };
+        rows[i] = v.unwrap_or(u64::MAX);
     }
 }

@@ -51,7 +51,7 @@ impl Tally for ByPenalty {
     }
 
     fn less(&self, a: (u64, u64), b: (u64, u64)) -> bool {
-        a.0 < b.0 || a.0 == b.0 && a.1 < b.1
+        a < b
     }
 
     fn add(&self, v: (u64, u64), start: u16, loss: u64) -> (u64, u64) {

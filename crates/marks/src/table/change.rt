@@ -6,6 +6,7 @@ ghost use Rattle.marks.specs.Marks.{laid, lifted, lay_refusal, lift_refusal};
 ghost use Rattle.marks.specs.Table.{marks_of, listed};
 
 use crate::table::MarkTable;
+use crate::table::find::{beginning_at, first_after};
 use crate::table::part::{insert, remove};
 use division::mark::Mark;
 use fault::Fault;
@@ -37,11 +38,7 @@ impl MarkTable {
     pub fn get(&self, i: usize) -> Option<Mark>
         ensures { result ≡ slice_get (marks_of self.now) i }
     {
-        if i < self.len {
-            Some(self.marks[i])
-        } else {
-            None
-        }
+        self.as_slice().get(i).copied()
     }
 
     // The marks that stand, first to last.
@@ -58,7 +55,7 @@ impl MarkTable {
         if let Some(fault) = self.refusal(n, mark) {
             return Err(fault);
         }
-        let at = self.place(mark);
+        let at = first_after(self.as_slice(), mark).unwrap_or(self.len);
         let mut marks = self.marks;
         insert(&mut marks, self.len, at, mark);
         Ok(MarkTable {
@@ -71,7 +68,7 @@ impl MarkTable {
     pub fn lift(self, first: u16) -> Result<MarkTable, Fault>
         ensures { listed result ≡ unless (lift_refusal first (marks_of self)) (lifted first (marks_of self)) }
     {
-        let Some(at) = self.find(first) else {
+        let Some(at) = beginning_at(self.as_slice(), first) else {
             return Err(Fault::NoSuchMark);
         };
         let mut marks = self.marks;

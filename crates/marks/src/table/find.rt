@@ -1,7 +1,6 @@
 // What a table is asked before a mark is laid or lifted.
-ghost use Rattle.std.specs.Prelude.{◌≡◌, ◌<◌, ◌≤◌, true, false, length, MatchOption};
-ghost use Rattle.std.specs.List.{insert, remove};
-ghost use Rattle.marks.specs.Marks.{well_formed, shares_gap, shares_any, laid, begins_at, lifted, lay_refusal};
+ghost use Rattle.std.specs.Prelude.{◌≡◌, ◌==◌, nat_lt, position};
+ghost use Rattle.marks.specs.Marks.{well_formed, shares_gap, shares_any, lay_refusal};
 ghost use Rattle.marks.specs.Table.{marks_of};
 
 use crate::table::MarkTable;
@@ -22,60 +21,40 @@ fn overlap(mark: Mark, other: Mark) -> bool
     mark.first < other.last && other.first < mark.last
 }
 
-impl MarkTable {
-    // Does the mark share a gap with one that stands?
-    fn shares(&self, mark: Mark) -> bool
-        ensures { result ≡ shares_any mark (marks_of self.now) }
-    {
-        for i in 0..self.len {
-            if overlap(mark, self.marks[i]) {
-                return true;
-            }
-        }
-        false
-    }
+// Does the mark share a gap with one of the marks?
+fn shares(marks: &[Mark], mark: Mark) -> bool
+    ensures { result ≡ shares_any mark marks.now }
+{
+    marks.iter().any(|other| overlap(mark, *other))
+}
 
+// The place of the first mark that begins after the mark.
+pub(crate) fn first_after(marks: &[Mark], mark: Mark) -> Option<usize>
+    ensures { result ≡ position (λ x. nat_lt mark.first x.first) marks.now }
+{
+    marks.iter().position(|other| mark.first < other.first)
+}
+
+// The place of the mark that begins at `first`.
+pub(crate) fn beginning_at(marks: &[Mark], first: u16) -> Option<usize>
+    ensures { result ≡ position (λ x. x.first == first) marks.now }
+{
+    marks.iter().position(|mark| mark.first == first)
+}
+
+impl MarkTable {
     // Why the mark cannot be laid.
     pub(crate) fn refusal(&self, n: u16, mark: Mark) -> Option<Fault>
         ensures { result ≡ lay_refusal n mark (marks_of self.now) }
     {
         if !lies_on(n, mark) {
             Some(Fault::BadMark)
-        } else if self.shares(mark) {
+        } else if shares(self.as_slice(), mark) {
             Some(Fault::SharedGap)
         } else if self.len >= 64 {
             Some(Fault::TooManyMarks)
         } else {
             None
         }
-    }
-
-    // The place where the mark is laid.
-    pub(crate) fn place(&self, mark: Mark) -> usize
-        ensures value { laid mark (marks_of self.now) ≡ insert (marks_of self.now) result mark }
-        ensures bound { result ≤ self.now.len }
-    {
-        for i in 0..self.len {
-            if mark.first < self.marks[i].first {
-                return i;
-            }
-        }
-        self.len
-    }
-
-    // The place of the mark that begins at `first`.
-    pub(crate) fn find(&self, first: u16) -> Option<usize>
-        ensures { MatchOption result
-            (begins_at first (marks_of self.now) ≡ false)
-            (λ i. (begins_at first (marks_of self.now) ≡ true)
-            × (lifted first (marks_of self.now) ≡ remove (marks_of self.now) i)
-            × (i < self.now.len)) }
-    {
-        for i in 0..self.len {
-            if self.marks[i].first == first {
-                return Some(i);
-            }
-        }
-        None
     }
 }

@@ -1,7 +1,7 @@
 use Rattle.std.proofs.Common.{length, rules}
 use Rattle.list.specs.Entries.{places}
 use Rattle.marks.specs.Table.{marks_of}
-use Rattle.line.specs.Calls.{sought}
+use Rattle.cuts.specs.Criterion.{sought}
 use Rattle.runs.proofs.Within.{within_answer, within_cut}
 use Rattle.runs.proofs.perform.take_cut.Goals as goal
 

@@ -1,9 +1,8 @@
 use Rattle.std.proofs.Common.{length, arith}
-use native.Mathlib.Nat.{sub-zero}
 use Rattle.list.specs.Entries.{places}
 use Rattle.line.specs.Calls.{fresh}
 use Rattle.runs.specs.Run.{run_refusal}
-use Rattle.runs.proofs.Turns.{given, begun, looked, lawful, lawful_now, again, ended, pushed, past_of}
+use Rattle.runs.proofs.Turns.{given, begun, lawful, lawful_now, again, ended, pushed, past_of}
 use Rattle.runs.proofs.replay.replay_watched.Goals as goal
 
 pub loop-i-init : goal.loop-i-init
@@ -15,14 +14,14 @@ loop-i-init g c =
 
 pub loop-i-preserved : goal.loop-i-preserved
 loop-i-preserved g c =
-    let w = looked (g.L.Loss.table c.args.loss.now) (length c.args.numbers.now) (length c.args.trace.now) c.args.calls.now c.loop-i.i c.begin.new.replies c.loop-i.replies c.args.boundaries.now c.loop-i.boundaries c.args.steps.now c.loop-i.steps c.loop-i.line c.loop-i.marks c.loop-i.invariant c.look.new.replies c.look.new.boundaries c.look.new.steps c.look.ensures.replies c.look.ensures.boundaries c.look.ensures.steps in
-    again (g.L.Loss.table c.args.loss.now) (length c.args.numbers.now) (length c.args.trace.now) c.args.calls.now c.loop-i.i c.begin.new.replies c.look.new.replies c.args.boundaries.now c.look.new.boundaries c.args.steps.now c.look.new.steps c.loop-i.line c.loop-i.marks w
+    let w = c.loop-i.invariant in
+    again (g.L.Loss.table c.args.loss.now) (length c.args.numbers.now) (length c.args.trace.now) c.args.calls.now c.loop-i.i c.begin.new.replies c.loop-i.replies c.args.boundaries.now c.loop-i.boundaries c.args.steps.now c.loop-i.steps c.loop-i.line c.loop-i.marks w
     _ c.perform-next.result.1 (length c.loop-i.numbers) (length c.loop-i.trace) c.push.new.self c.perform-next.new.boundaries c.perform-next.new.steps c.perform-next.result.0 c.perform-next.new.marks
     c.loop-i-test.true c.loop-i.auto.numbers c.loop-i.auto.trace c.perform-next.ensures.keeps c.perform-next.ensures.boundaries c.perform-next.ensures.steps
-    (pushed c.look.new.replies c.push.new.self c.perform-next.result.1 c.push.result (omega (arith, w.fits, w.count, c.loop-i-test.true)) c.push.ensures.value c.push.ensures.cases c.push.ensures.lender)
+    (pushed c.loop-i.replies c.push.new.self c.perform-next.result.1 c.push.result (omega (arith, w.fits, w.count, c.loop-i-test.true)) c.push.ensures.value c.push.ensures.cases c.push.ensures.lender)
 
 pub look-requires : goal.look-requires
-look-requires g c = simp sub-zero (lawful (g.L.Loss.table c.args.loss.now) (length c.args.numbers.now) (length c.args.trace.now) c.args.calls.now c.loop-i.i c.begin.new.replies c.loop-i.replies c.args.boundaries.now c.loop-i.boundaries c.args.steps.now c.loop-i.steps c.loop-i.line c.loop-i.marks c.loop-i.invariant)
+look-requires g c = lawful (g.L.Loss.table c.args.loss.now) (length c.args.numbers.now) (length c.args.trace.now) c.args.calls.now c.loop-i.i c.begin.new.replies c.loop-i.replies c.args.boundaries.now c.loop-i.boundaries c.args.steps.now c.loop-i.steps c.loop-i.line c.loop-i.marks c.loop-i.invariant
 
 pub look-requires-2 : goal.look-requires-2
 look-requires-2 g c = lawful_now (g.L.Loss.table c.args.loss.now) (length c.args.numbers.now) (length c.args.trace.now) c.args.calls.now c.loop-i.i c.begin.new.replies c.loop-i.replies c.args.boundaries.now c.loop-i.boundaries c.args.steps.now c.loop-i.steps c.loop-i.line c.loop-i.marks c.loop-i.invariant c.loop-i-test.false
@@ -31,12 +30,12 @@ pub returns : goal.returns
 returns g c =
     let e = c.in_ok-begin.ensures in
     let s = given (run_refusal (g.L.Loss.table c.args.loss.now) (length c.args.calls.now) (length (places c.args.replies.now))) c.in_ok-begin.field-0 (fresh (g.L.Loss.table c.args.loss.now)) e.answer in
-    let w = looked (g.L.Loss.table c.args.loss.now) (length c.args.numbers.now) (length c.args.trace.now) c.args.calls.now c.loop-i.i c.begin.new.replies c.loop-i.replies c.args.boundaries.now c.loop-i.boundaries c.args.steps.now c.loop-i.steps c.loop-i.line c.loop-i.marks c.loop-i.invariant c.look-2.new.replies c.look-2.new.boundaries c.look-2.new.steps c.look-2.ensures.replies c.look-2.ensures.boundaries c.look-2.ensures.steps in
-    let done = ended (g.L.Loss.table c.args.loss.now) (length c.args.numbers.now) (length c.args.trace.now) c.args.calls.now c.loop-i.i c.begin.new.replies c.look-2.new.replies c.args.boundaries.now c.look-2.new.boundaries c.args.steps.now c.look-2.new.steps c.loop-i.line c.loop-i.marks w c.loop-i-test.false c.loop-i.auto.i-end in
+    let w = c.loop-i.invariant in
+    let done = ended (g.L.Loss.table c.args.loss.now) (length c.args.numbers.now) (length c.args.trace.now) c.args.calls.now c.loop-i.i c.begin.new.replies c.loop-i.replies c.args.boundaries.now c.loop-i.boundaries c.args.steps.now c.loop-i.steps c.loop-i.line c.loop-i.marks w c.loop-i-test.false c.loop-i.auto.i-end in
     record {
       refusal = s.0;
       law = done.0.law;
       kept = done.0;
       replied = done.1;
-      slices = (past_of c.args.replies.now c.begin.new.replies c.look-2.new.replies e.replies.1 e.slice w.replies, w.boundaries, w.steps);
+      slices = (past_of c.args.replies.now c.begin.new.replies c.loop-i.replies e.replies.1 e.slice w.replies, w.boundaries, w.steps);
     }
