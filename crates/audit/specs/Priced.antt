@@ -1,5 +1,5 @@
 -- What is told of a division of the readings that a loss stands for, and when nothing is told.
-use Rattle.std.specs.Prelude.{◌≡◌, ℕ, ◌*◌, ◌^◌, ◌≤◌, cond, List, [], ◌∷◌, map, Some, None, vec_items, Option, ◌==◌, nat_lt}
+use Rattle.std.specs.Prelude.{◌≡◌, ℕ, ◌+◌, ◌*◌, ◌^◌, ◌≤◌, cond, List, [], ◌∷◌, ◌++◌, map, Some, None, vec_items, Option, ◌==◌, nat_lt}
 use Rattle.fault.specs.declared.Fault.{Fault}
 use Rattle.fault.specs.declared.Fault.TheVariants.{TooHeavy, NoReading, TooManyReadings, BadPenalty, BadStretch}
 use Rattle.fault.specs.Refusal.{or_else}
@@ -36,6 +36,13 @@ pub record Summed (t : Table) (ds : List ℕ) (s : Sum) : Type 0 where
   pub stretches : vec_items s.stretches ≡ priced t.loss t.length 0 ds
   pub loss : s.loss ≡ loss t.loss t.length ds
   pub bound : s.loss ≤ 2 ^ 40 * t.length
+
+-- the sum has one stretch more, which ends at b
+pub record Longer (t : Table) (s s' : Sum) (b : ℕ) : Type 0 where
+  pub stretches : vec_items s'.stretches ≡ vec_items s.stretches ++ record { start = s.end; end = b; loss = t.loss s.end b } ∷ []
+  pub end : s'.end ≡ b
+  pub loss : s'.loss ≡ s.loss + t.loss s.end b
+  pub small : s'.loss ≤ 2 ^ 40 * b
 
 -- the report tells the truth
 pub record Told (t : Table) (marks : List Mark) (m p : ℕ) (ds : List ℕ) (r : Report) : Type 0 where

@@ -1,45 +1,54 @@
 // Prices a division by any loss.
-ghost use Rattle.std.specs.Prelude.{◌≡◌, ◌^◌, ◌≤◌, map, IfOk, Ok, Err};
+ghost use Rattle.std.specs.Prelude.{◌≡◌, ◌*◌, ◌^◌, ◌<◌, ◌≤◌, map, IfOk, Ok, Err};
 ghost use Rattle.fault.specs.declared.Failure.TheVariants.{OutOfMemory};
 ghost use Rattle.fault.specs.Refusal.{RefusedFor, FailedFor};
 ghost use Rattle.division.specs.Division.{Division};
-ghost use Rattle.audit.specs.Priced.{counted, price_refusal, opening_refusal, Summed, Told};
+ghost use Rattle.audit.specs.Priced.{counted, price_refusal, opening_refusal, Summed, Longer, Told};
 
 use crate::report::{CountedMark, PricedStretch, Report};
 use division::check::{is_allowed, is_division, is_long_enough};
 use division::mark::Mark;
 use fault::{Failure, Fault};
-use loss::model::{HEAVIEST, Loss};
+use loss::check::check_line;
+use loss::limits::LARGEST_PENALTY;
+use loss::model::Loss;
 use std::alloc::Global;
-
-// The most readings that a line has.
-pub const MOST_READINGS: u16 = 512;
-
-// The largest penalty for a boundary.
-pub const LARGEST_PENALTY: u64 = 1 << 49;
 
 // Refuses a loss that no line can be opened over.
 pub fn check_opening<L: Loss>(loss: &L) -> Result<(), Fault>
     ensures { RefusedFor (opening_refusal (L.Loss.table loss.now)) result }
 {
-    if loss.ceiling() > HEAVIEST {
-        return Err(Fault::TooHeavy);
-    }
-    let n = loss.length();
-    if n == 0 {
-        return Err(Fault::NoReading);
-    }
-    if n > MOST_READINGS {
-        return Err(Fault::TooManyReadings);
-    }
-    Ok(())
+    check_line(loss, loss.length())
 }
 
-// The stretches of a division with their losses, and the losses added up.
+// The stretches of a division as far as `end`, with their losses, and the losses added up.
 #[derive(Drop)]
 struct Sum {
     stretches: Vec<PricedStretch>,
+    end: u16,
     loss: u64,
+}
+
+impl Sum {
+    // The next stretch, which ends at `end`.
+    fn add_stretch<L: Loss>(&mut self, loss: &L, end: u16) -> Result<(), Failure>
+        requires light { (L.Loss.table loss.now).ceiling ≤ 2 ^ 40 }
+        requires rises { self.old.end < end }
+        requires within { end ≤ (L.Loss.table loss.now).length }
+        requires small { self.old.loss ≤ 2 ^ 40 * self.old.end }
+        ensures { elim result [ Ok _ ↦ Longer (L.Loss.table loss.now) self.old self.new end | Err e ↦ e ≡ OutOfMemory ] }
+    {
+        let start = self.end;
+        let lost = loss.stretch(start, end)?;
+        self.loss += lost;
+        self.end = end;
+        self.stretches.push(PricedStretch {
+            start,
+            end,
+            loss: lost,
+        })?;
+        Ok(())
+    }
 }
 
 fn price_stretches<L: Loss>(heap: Global, loss: &L, gaps: &[u16]) -> Result<Sum, Failure>
@@ -47,50 +56,28 @@ fn price_stretches<L: Loss>(heap: Global, loss: &L, gaps: &[u16]) -> Result<Sum,
     requires light { (L.Loss.table loss.now).ceiling ≤ 2 ^ 40 }
     ensures { elim result [ Ok s ↦ Summed (L.Loss.table loss.now) gaps.now s | Err e ↦ e ≡ OutOfMemory ] }
 {
-    let mut stretches = Vec::new(heap);
-    let mut sum: u64 = 0;
-    let mut start: u16 = 0;
+    let mut sum = Sum {
+        stretches: Vec::new(heap),
+        end: 0,
+        loss: 0,
+    };
     for gap in gaps {
-        let lost = loss.stretch(start, *gap)?;
-        stretches.push(PricedStretch {
-            start,
-            end: *gap,
-            loss: lost,
-        })?;
-        sum += lost;
-        start = *gap;
+        sum.add_stretch(loss, *gap)?;
     }
-    let end = loss.length();
-    let lost = loss.stretch(start, end)?;
-    stretches.push(PricedStretch {
-        start,
-        end,
-        loss: lost,
-    })?;
-    Ok(Sum {
-        stretches,
-        loss: sum + lost,
-    })
+    sum.add_stretch(loss, loss.length())?;
+    Ok(sum)
 }
 
 // Each mark with the boundaries in its span.
 fn count_marks(heap: Global, marks: &[Mark], gaps: &[u16]) -> Result<Vec<CountedMark>, Failure>
     ensures { elim result [ Ok v ↦ v.items ≡ map (counted gaps.now) marks.now | Err e ↦ e ≡ OutOfMemory ] }
 {
-    let mut counted = Vec::new(heap);
-    for mark in marks {
-        let boundaries = mark.count_in(gaps);
-        let obeyed = mark.is_obeyed(gaps);
-        counted.push(CountedMark {
-            mark: *mark,
-            boundaries,
-            obeyed,
-        })?;
-    }
-    Ok(counted)
+    let counted = marks.iter().map(|mark| CountedMark::of(*mark, gaps));
+    Ok(counted.collect(heap)?)
 }
 
 // All that is told of the division `gaps` of the readings that the loss stands for.
+#[tactic(auto, using(crate::proofs::Along::is_division, crate::proofs::Along::penalties_bound))]
 pub fn price<L: Loss>(
     heap: Global,
     loss: &L,
@@ -104,23 +91,19 @@ pub fn price<L: Loss>(
 {
     check_opening(loss)?;
     if penalty > LARGEST_PENALTY {
-        return Err(Failure::Refused(Fault::BadPenalty));
+        return Err(Fault::BadPenalty.into());
     }
     let n = loss.length();
     if !is_division(n, gaps) {
-        return Err(Failure::Refused(Fault::BadStretch));
+        return Err(Fault::BadStretch.into());
     }
-    let Sum {
-        stretches,
-        loss: lost,
-    } = price_stretches(heap, loss, gaps)?;
-    let counted = count_marks(heap, marks, gaps)?;
+    let sum = price_stretches(heap, loss, gaps)?;
     Ok(Report {
-        stretches,
-        marks: counted,
+        stretches: sum.stretches,
+        marks: count_marks(heap, marks, gaps)?,
         long_enough: is_long_enough(shortest, n, gaps),
-        loss: lost,
-        total: lost + penalty * gaps.len() as u64,
+        loss: sum.loss,
+        total: sum.loss + penalty * gaps.len() as u64,
         allowed: is_allowed(marks, shortest, n, gaps),
     })
 }

@@ -1,4 +1,7 @@
 // What is told of a division.
+ghost use Rattle.std.specs.Prelude.{◌≡◌};
+ghost use Rattle.audit.specs.Priced.{counted};
+
 use division::mark::Mark;
 
 // Stretch (start, end) holds the readings start + 1 to end.
@@ -15,6 +18,19 @@ pub struct CountedMark {
     pub mark: Mark,
     pub boundaries: usize,
     pub obeyed: bool,
+}
+
+impl CountedMark {
+    // The mark, with what the boundaries `gaps` make of it.
+    pub(crate) fn of(mark: Mark, gaps: &[u16]) -> CountedMark
+        ensures { result ≡ counted gaps.now mark }
+    {
+        CountedMark {
+            mark,
+            boundaries: mark.count_in(gaps),
+            obeyed: mark.is_obeyed(gaps),
+        }
+    }
 }
 
 #[derive(Drop)]

@@ -2,7 +2,9 @@
 // digest of what it found.
 #![tactic(auto)]
 
-use cuts::cuts::{cut_by_count, cut_by_penalty};
+use constraints::Constraints;
+use cuts::criterion::Criterion;
+use cuts::cuts::cut;
 use envelope::Step;
 use layers::pair::Pair;
 use layers::weighted::Weighted;
@@ -21,10 +23,8 @@ type Starboard = Weighted<Votes>;
 // Readings of two bytes each.
 fn squares_of(readings: &[u8]) -> Squares {
     let mut loss = Squares::new();
-    let mut left = readings;
-    while let [high, low, rest @ ..] = left {
-        let _ = loss.push(i32::from(i16::from_be_bytes([*high, *low])));
-        left = rest;
+    for reading in readings.as_chunks::<2>().0 {
+        let _ = loss.push(i32::from(i16::from_be_bytes(*reading)));
     }
     loss
 }
@@ -33,11 +33,9 @@ fn squares_of(readings: &[u8]) -> Squares {
 fn pair_of(readings: &[u8]) -> Pair<Port, Starboard> {
     let mut port = Squares::new();
     let mut below = Votes::new();
-    let mut left = readings;
-    while let [high, low, code, rest @ ..] = left {
+    for [high, low, code] in readings.as_chunks::<3>().0 {
         let _ = port.push(i32::from(i16::from_be_bytes([*high, *low])));
         let _ = below.push(i32::from(*code));
-        left = rest;
     }
     Pair {
         port,
@@ -45,79 +43,67 @@ fn pair_of(readings: &[u8]) -> Pair<Port, Starboard> {
     }
 }
 
-fn digest(start: u64, boundaries: &mut List<u16>) -> u64 {
-    let mut sum = start;
-    for i in 0..boundaries.len() {
-        if let Some(gap) = boundaries.get(i) {
-            sum = sum.wrapping_mul(31).wrapping_add(u64::from(gap));
-        }
+fn digest(total: u64, boundaries: &List<u16>) -> u64 {
+    boundaries.as_slice().iter().fold(total, |sum, gap| {
+        sum.wrapping_mul(31).wrapping_add(u64::from(*gap))
+    })
+}
+
+fn digest_of_path(steps: &List<Step>) -> u64 {
+    steps.as_slice().iter().fold(0u64, |sum, step| {
+        sum.wrapping_mul(31)
+            .wrapping_add(step.penalty ^ step.loss)
+            .wrapping_add(u64::from(step.count))
+    })
+}
+
+// Does the job so many times, and adds up what it gives.
+fn repeated<F: FnMut() -> u64>(times: u32, mut job: F) -> u64
+    requires { F.IsAlwaysCallable job }
+{
+    let mut sum: u64 = 0;
+    for _ in 0..times {
+        sum = sum.wrapping_add(job());
     }
     sum
 }
 
-fn digest_of_path(steps: &mut List<Step>) -> u64 {
-    let mut sum: u64 = 0;
-    for i in 0..steps.len() {
-        if let Some(step) = steps.get(i) {
-            sum = sum
-                .wrapping_mul(31)
-                .wrapping_add(step.penalty ^ step.loss)
-                .wrapping_add(u64::from(step.count));
-        }
-    }
-    sum
+fn cut_by<L: Loss>(loss: &L, criterion: Criterion, trace: &mut [u16], times: u32) -> u64 {
+    let constraints = Constraints {
+        n: loss.length(),
+        shortest: 1,
+        marks: &MarkTable::new(),
+    };
+    let mut numbers = [0u64; 1539];
+    let mut places = [0u16; 511];
+    let mut list = List::over(&mut places);
+    repeated(times, || {
+        cut(
+            loss,
+            &constraints,
+            criterion,
+            &mut numbers,
+            trace,
+            &mut list,
+        )
+        .map_or(0, |total| digest(total, &list))
+    })
 }
 
 fn by_penalty<L: Loss>(loss: &L, penalty: u64, times: u32) -> u64 {
-    let marks = MarkTable::new();
-    let mut numbers = [0u64; 1539];
-    let mut trace = [0u16; 513];
-    let mut places = [0u16; 511];
-    let mut list = List::over(&mut places);
-    let mut sum: u64 = 0;
-    for _ in 0..times {
-        if let Ok(total) = cut_by_penalty(
-            loss,
-            loss.length(),
-            &marks,
-            1,
-            penalty,
-            &mut numbers,
-            &mut trace,
-            &mut list,
-        ) {
-            sum = sum.wrapping_add(digest(total, &mut list));
-        }
-    }
-    sum
+    cut_by(loss, Criterion::Penalty(penalty), &mut [0; 513], times)
 }
 
 fn by_count<L: Loss>(loss: &L, count: u16, times: u32) -> u64 {
-    let marks = MarkTable::new();
-    let mut numbers = [0u64; 1539];
-    let mut trace = [0u16; 32768];
-    let mut places = [0u16; 511];
-    let mut list = List::over(&mut places);
-    let mut sum: u64 = 0;
-    for _ in 0..times {
-        if let Ok(total) = cut_by_count(
-            loss,
-            loss.length(),
-            &marks,
-            1,
-            count,
-            &mut numbers,
-            &mut trace,
-            &mut list,
-        ) {
-            sum = sum.wrapping_add(digest(total, &mut list));
-        }
-    }
-    sum
+    cut_by(loss, Criterion::Count(count), &mut [0; 32768], times)
 }
 
 fn path_of<L: Loss>(loss: &L, times: u32) -> u64 {
-    let marks = MarkTable::new();
+    let constraints = Constraints {
+        n: loss.length(),
+        shortest: 1,
+        marks: &MarkTable::new(),
+    };
     let mut numbers = [0u64; 1539];
     let mut places = [Step {
         penalty: 0,
@@ -125,13 +111,9 @@ fn path_of<L: Loss>(loss: &L, times: u32) -> u64 {
         loss: 0,
     }; 512];
     let mut list = List::over(&mut places);
-    let mut sum: u64 = 0;
-    for _ in 0..times {
-        if path(loss, loss.length(), &marks, 1, &mut numbers, &mut list).is_ok() {
-            sum = sum.wrapping_add(digest_of_path(&mut list));
-        }
-    }
-    sum
+    repeated(times, || {
+        path(loss, &constraints, &mut numbers, &mut list).map_or(0, |()| digest_of_path(&list))
+    })
 }
 
 pub fn squares_by_penalty(readings: &[u8], penalty: u64, times: u32) -> u64 {
