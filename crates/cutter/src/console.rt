@@ -3,12 +3,11 @@ use crate::buffers::Buffers;
 use crate::problem::Problem;
 use crate::show::{Best, kind_name, show_best, show_comparison, show_help, show_path, show_report};
 use command::{Command, read};
+use cuts::criterion::Criterion;
 use division::mark::Mark;
-use fault::Fault;
 use leaves::kind::LossKind;
 use list::List;
 use std::alloc::{AllocError, Global};
-use std::mem::replace;
 use survey::state::Survey;
 
 #[derive(Drop)]
@@ -53,8 +52,8 @@ impl Console {
             Command::Unmark(first) => self.lift(rt, first),
             Command::Shortest(m) => self.set_shortest(rt, m),
             Command::Price { penalty, gaps } => self.price(rt, penalty, gaps.as_slice()),
-            Command::BestByPenalty(penalty) => self.best_by_penalty(rt, penalty),
-            Command::BestByCount(count) => self.best_by_count(rt, count),
+            Command::BestByPenalty(penalty) => self.best(rt, Criterion::Penalty(penalty)),
+            Command::BestByCount(count) => self.best(rt, Criterion::Count(count)),
             Command::Path => self.path(rt),
         }
     }
@@ -68,10 +67,7 @@ impl Console {
     }
 
     fn take_readings(&mut self, rt: &HostRuntime, readings: &[i32]) -> Result<(), Problem> {
-        let before = replace(&mut self.survey, Survey::new(LossKind::Squares));
-        let (after, result) = before.gather(readings);
-        self.survey = after;
-        let held = result?;
+        let held = self.survey.gather(readings)?;
         let taken = readings.len();
         println!(rt; "readings: {taken} taken, {held} held")?;
         Ok(())
@@ -104,70 +100,45 @@ impl Console {
         let report = self.survey.price(rt.alloc(), penalty, gaps)?;
         let shortest = self.survey.shortest();
         show_report(rt, penalty, shortest, gaps, &report)?;
-        let found = best_by_penalty(&self.survey, penalty, &mut self.buffers);
-        show_comparison(
-            rt,
-            gaps,
-            report.total,
-            found,
-            self.buffers.boundaries.as_slice(),
+        let mut list = List::over(self.buffers.boundaries.as_mut_slice());
+        let found = self.survey.best(
+            Criterion::Penalty(penalty),
+            self.buffers.numbers.as_mut_slice(),
+            self.buffers.trace.as_mut_slice(),
+            &mut list,
+        );
+        let winner = match found {
+            Ok(total) => Some(Best {
+                total,
+                boundaries: list.as_slice(),
+            }),
+            Err(_) => None,
+        };
+        show_comparison(rt, gaps, report.total, winner)?;
+        Ok(())
+    }
+
+    fn best(&mut self, rt: &HostRuntime, criterion: Criterion) -> Result<(), Problem> {
+        let mut list = List::over(self.buffers.boundaries.as_mut_slice());
+        let total = self.survey.best(
+            criterion,
+            self.buffers.numbers.as_mut_slice(),
+            self.buffers.trace.as_mut_slice(),
+            &mut list,
         )?;
-        Ok(())
-    }
-
-    fn best_by_penalty(&mut self, rt: &HostRuntime, penalty: u64) -> Result<(), Problem> {
-        let best = best_by_penalty(&self.survey, penalty, &mut self.buffers)?;
-        print!(rt; "best {penalty}: ")?;
-        show_best(rt, best, self.buffers.boundaries.as_slice())?;
-        Ok(())
-    }
-
-    fn best_by_count(&mut self, rt: &HostRuntime, count: u16) -> Result<(), Problem> {
-        let best = best_by_count(&self.survey, count, &mut self.buffers)?;
-        print!(rt; "best count {count}: ")?;
-        show_best(rt, best, self.buffers.boundaries.as_slice())?;
+        let best = Best {
+            total,
+            boundaries: list.as_slice(),
+        };
+        show_best(rt, criterion, best)?;
         Ok(())
     }
 
     fn path(&mut self, rt: &HostRuntime) -> Result<(), Problem> {
-        let steps = path(&self.survey, &mut self.buffers)?;
-        show_path(rt, self.buffers.steps.as_slice(), steps)?;
+        let mut list = List::over(self.buffers.steps.as_mut_slice());
+        self.survey
+            .path(self.buffers.numbers.as_mut_slice(), &mut list)?;
+        show_path(rt, list.as_slice())?;
         Ok(())
     }
-}
-
-// The winner's boundaries into the buffer, and its total with their number.
-fn best_by_penalty(survey: &Survey, penalty: u64, buffers: &mut Buffers) -> Result<Best, Fault> {
-    let mut list = List::over(buffers.boundaries.as_mut_slice());
-    let total = survey.best_by_penalty(
-        penalty,
-        buffers.numbers.as_mut_slice(),
-        buffers.trace.as_mut_slice(),
-        &mut list,
-    )?;
-    Ok(Best {
-        total,
-        boundaries: list.len(),
-    })
-}
-
-fn best_by_count(survey: &Survey, count: u16, buffers: &mut Buffers) -> Result<Best, Fault> {
-    let mut list = List::over(buffers.boundaries.as_mut_slice());
-    let total = survey.best_by_count(
-        count,
-        buffers.numbers.as_mut_slice(),
-        buffers.trace.as_mut_slice(),
-        &mut list,
-    )?;
-    Ok(Best {
-        total,
-        boundaries: list.len(),
-    })
-}
-
-// The path's steps into the buffer, and their number.
-fn path(survey: &Survey, buffers: &mut Buffers) -> Result<usize, Fault> {
-    let mut list = List::over(buffers.steps.as_mut_slice());
-    survey.path(buffers.numbers.as_mut_slice(), &mut list)?;
-    Ok(list.len())
 }

@@ -1,8 +1,8 @@
 // What is printed.
 use audit::report::Report;
+use cuts::criterion::Criterion;
 use division::mark::Mark;
 use envelope::Step;
-use fault::Fault;
 use leaves::kind::LossKind;
 use std::io;
 
@@ -55,7 +55,7 @@ pub fn show_report(
 }
 
 fn show_stretches(rt: &HostRuntime, report: &Report) -> io::Result<()> {
-    for stretch in report.stretches.as_slice() {
+    for stretch in &report.stretches {
         let first = u32::from(stretch.start) + 1;
         let last = stretch.end;
         let loss = stretch.loss;
@@ -65,7 +65,7 @@ fn show_stretches(rt: &HostRuntime, report: &Report) -> io::Result<()> {
 }
 
 fn show_marks(rt: &HostRuntime, report: &Report) -> io::Result<()> {
-    for counted in report.marks.as_slice() {
+    for counted in &report.marks {
         let Mark {
             first,
             last,
@@ -96,61 +96,50 @@ fn show_sums(rt: &HostRuntime, shortest: u16, report: &Report) -> io::Result<()>
     println!(rt; "  {verdict}")
 }
 
-// The winner: its total, and how many boundaries of the buffer are its own.
+// The winner: its total and its boundaries.
 #[derive(Clone, Copy)]
-pub struct Best {
+pub struct Best<'a> {
     pub total: u64,
-    pub boundaries: usize,
+    pub boundaries: &'a [u16],
 }
 
-// The boundaries of the winner, and its total.
-pub fn show_best(rt: &HostRuntime, best: Best, gaps: &[u16]) -> io::Result<()> {
-    show_boundaries(rt, best, gaps)?;
+// What was asked for, the boundaries of the winner, and its total.
+pub fn show_best(rt: &HostRuntime, criterion: Criterion, best: Best<'_>) -> io::Result<()> {
+    match criterion {
+        Criterion::Penalty(penalty) => print!(rt; "best {penalty}: ")?,
+        Criterion::Count(count) => print!(rt; "best count {count}: ")?,
+    }
+    show_boundaries(rt, best.boundaries)?;
     let total = best.total;
     println!(rt; ", total {total}")
 }
 
-fn show_boundaries(rt: &HostRuntime, best: Best, gaps: &[u16]) -> io::Result<()> {
-    if best.boundaries == 0 {
+fn show_boundaries(rt: &HostRuntime, gaps: &[u16]) -> io::Result<()> {
+    if gaps.is_empty() {
         return print!(rt; "no boundary");
     }
     print!(rt; "boundaries")?;
-    for gap in gaps.iter().take(best.boundaries) {
+    for gap in gaps {
         print!(rt; " {gap}")?;
     }
     Ok(())
 }
 
-// Are these the winner's boundaries?
-fn is_same(printed: &[u16], best: Best, gaps: &[u16]) -> bool {
-    if printed.len() != best.boundaries {
-        return false;
-    }
-    for (a, b) in printed.iter().zip(gaps) {
-        if *a != *b {
-            return false;
-        }
-    }
-    true
-}
-
-// Whether the division that was printed, of this total, is the winner, and else which one is.
+// Whether the division that was printed, of this total, is the winner, and else which one is; no winner where none is allowed.
 pub fn show_comparison(
     rt: &HostRuntime,
     printed: &[u16],
     total: u64,
-    found: Result<Best, Fault>,
-    gaps: &[u16],
+    winner: Option<Best<'_>>,
 ) -> io::Result<()> {
-    let best = match found {
-        Ok(best) => best,
-        Err(_) => return println!(rt; "  no division is allowed"),
+    let Some(best) = winner else {
+        return println!(rt; "  no division is allowed");
     };
-    if is_same(printed, best, gaps) {
+    if printed == best.boundaries {
         return println!(rt; "  the winner");
     }
     print!(rt; "  the winner has ")?;
-    show_boundaries(rt, best, gaps)?;
+    show_boundaries(rt, best.boundaries)?;
     let least = best.total;
     if least <= total {
         let less = total - least;
@@ -162,9 +151,10 @@ pub fn show_comparison(
 }
 
 // The steps of a path: from which penalty on how many boundaries are best.
-pub fn show_path(rt: &HostRuntime, steps: &[Step], count: usize) -> io::Result<()> {
+pub fn show_path(rt: &HostRuntime, steps: &[Step]) -> io::Result<()> {
+    let count = steps.len();
     println!(rt; "path: {count} in all")?;
-    for step in steps.iter().take(count) {
+    for step in steps {
         let Step {
             penalty,
             count,

@@ -31,25 +31,16 @@ impl Held {
         }
     }
 
-    // Takes the readings in their order, all of them or none, and gives the loss back.
-    pub fn gather(self, xs: &[i32]) -> (Held, Result<(), Fault>)
-        ensures result { result.1 ≡ gathered (lowest_of self) (span_of self) (readings_of self) xs.now }
-        ensures readings { readings_of result.0 ≡ after_all (lowest_of self) (span_of self) (readings_of self) xs.now }
-        ensures kind { kind_of result.0 ≡ kind_of self }
+    // Takes the readings in their order, all of them or none.
+    pub fn gather(&mut self, xs: &[i32]) -> Result<(), Fault>
+        ensures result { result ≡ gathered (lowest_of self.old) (span_of self.old) (readings_of self.old) xs.now }
+        ensures readings { readings_of self.new ≡ after_all (lowest_of self.old) (span_of self.old) (readings_of self.old) xs.now }
+        ensures kind { kind_of self.new ≡ kind_of self.old }
     {
         match self {
-            Held::BySquares(mut leaf) => {
-                let result = gather(&mut leaf, xs);
-                (Held::BySquares(leaf), result)
-            }
-            Held::ByDistances(mut leaf) => {
-                let result = gather(&mut leaf, xs);
-                (Held::ByDistances(leaf), result)
-            }
-            Held::ByVotes(mut leaf) => {
-                let result = gather(&mut leaf, xs);
-                (Held::ByVotes(leaf), result)
-            }
+            Held::BySquares(leaf) => gather(leaf, xs),
+            Held::ByDistances(leaf) => gather(leaf, xs),
+            Held::ByVotes(leaf) => gather(leaf, xs),
         }
     }
 }

@@ -5,9 +5,10 @@ ghost use Rattle.leaves.specs.Taking.{gathered, after_all};
 ghost use Rattle.marks.specs.Marks.{laid, lifted, lay_refusal, lift_refusal};
 ghost use Rattle.marks.specs.Table.{marks_of};
 ghost use Rattle.list.specs.Entries.{places};
-ghost use Rattle.division.specs.Winner.{by_penalty, by_count, total as total_of};
+ghost use Rattle.division.specs.Winner.{total as total_of};
 ghost use Rattle.path.specs.Outcome.{path_refusal, PathWritten};
-ghost use Rattle.cuts.specs.Outcome.{penalty_refusal, count_refusal, Cut};
+ghost use Rattle.cuts.specs.Outcome.{Cut};
+ghost use Rattle.cuts.specs.Criterion.{sought, refusal_of};
 ghost use Rattle.survey.specs.Best.{best_division};
 ghost use Rattle.audit.specs.Priced.{price_refusal, Told};
 ghost use Rattle.survey.specs.Held.{table_of_held, readings_of, lowest_of, span_of, kind_of};
@@ -16,7 +17,9 @@ ghost use Rattle.survey.specs.Calls.{counted, shortest_refusal};
 use crate::held::Held;
 use audit::price::price;
 use audit::report::Report;
-use cuts::cuts::{cut_by_count, cut_by_penalty};
+use constraints::Constraints;
+use cuts::criterion::Criterion;
+use cuts::cuts::cut;
 use division::mark::Mark;
 use envelope::Step;
 use fault::{Failure, Fault};
@@ -51,31 +54,28 @@ impl Survey {
     }
 
     // Takes the readings, all of them or none, and says how many are then held.
-    pub fn gather(self, xs: &[i32]) -> (Survey, Result<u16, Fault>)
-        ensures answer { result.1 ≡ counted (gathered (lowest_of self.held) (span_of self.held) (readings_of self.held) xs.now) (table_of_held result.0.held).length }
-        ensures readings { readings_of result.0.held ≡ after_all (lowest_of self.held) (span_of self.held) (readings_of self.held) xs.now }
-        ensures kind { kind_of result.0.held ≡ kind_of self.held }
-        ensures marks { result.0.marks ≡ self.marks }
-        ensures shortest { result.0.shortest ≡ self.shortest }
+    pub fn gather(&mut self, xs: &[i32]) -> Result<u16, Fault>
+        ensures answer { result ≡ counted (gathered (lowest_of self.old.held) (span_of self.old.held) (readings_of self.old.held) xs.now) (table_of_held self.new.held).length }
+        ensures readings { readings_of self.new.held ≡ after_all (lowest_of self.old.held) (span_of self.old.held) (readings_of self.old.held) xs.now }
+        ensures kind { kind_of self.new.held ≡ kind_of self.old.held }
+        ensures marks { self.new.marks ≡ self.old.marks }
+        ensures shortest { self.new.shortest ≡ self.old.shortest }
     {
-        let Survey {
-            held,
-            marks,
-            shortest,
-        } = self;
-        let (held, result) = held.gather(xs);
-        let answer = match result {
-            Ok(()) => Ok(held.length()),
-            Err(fault) => Err(fault),
-        };
-        (
-            Survey {
-                held,
-                marks,
-                shortest,
-            },
-            answer,
-        )
+        self.held.gather(xs)?;
+        Ok(self.held.length())
+    }
+
+    // What the line's divisions are held to.
+    fn constraints(&self) -> Constraints<'_>
+        ensures n { result.n ≡ (table_of_held self.now.held).length }
+        ensures shortest { result.shortest ≡ self.now.shortest }
+        ensures marks { result.marks.now ≡ self.now.marks }
+    {
+        Constraints {
+            n: self.held.length(),
+            shortest: self.shortest,
+            marks: &self.marks,
+        }
     }
 
     // Lays a mark, and says how many then stand.
@@ -117,54 +117,26 @@ impl Survey {
         self.shortest
     }
 
-    // The cheapest allowed division at a penalty for each boundary: its boundaries into the list, and its total.
-    pub fn best_by_penalty(
+    // The cheapest allowed division at a penalty for each boundary, or with so many boundaries: its boundaries into the list, and its total.
+    pub fn best(
         &self,
-        penalty: u64,
+        criterion: Criterion,
         numbers: &mut [u64],
         trace: &mut [u16],
         boundaries: &mut List<u16>,
     ) -> Result<u64, Fault>
         ensures cut { Cut
-            (penalty_refusal (table_of_held self.now.held) (table_of_held self.now.held).length penalty (length numbers.old) (length trace.old) (length (places boundaries.old)))
-            (best_division (by_penalty penalty) self.now)
-            (total_of (by_penalty penalty) (table_of_held self.now.held).loss (table_of_held self.now.held).length)
+            (refusal_of (sought criterion) (table_of_held self.now.held) (table_of_held self.now.held).length (length numbers.old) (length trace.old) (length (places boundaries.old)))
+            (best_division (sought criterion) self.now)
+            (total_of (sought criterion) (table_of_held self.now.held).loss (table_of_held self.now.held).length)
             result boundaries.old boundaries.new numbers.old numbers.new trace.old trace.new }
         ensures lender { boundaries.new.items.ghost_name ≡ boundaries.old.items.ghost_name }
     {
-        cut_by_penalty(
+        let constraints = self.constraints();
+        cut(
             &self.held,
-            self.held.length(),
-            &self.marks,
-            self.shortest,
-            penalty,
-            numbers,
-            trace,
-            boundaries,
-        )
-    }
-
-    // The cheapest allowed division with so many boundaries.
-    pub fn best_by_count(
-        &self,
-        count: u16,
-        numbers: &mut [u64],
-        trace: &mut [u16],
-        boundaries: &mut List<u16>,
-    ) -> Result<u64, Fault>
-        ensures cut { Cut
-            (count_refusal (table_of_held self.now.held) (table_of_held self.now.held).length count (length numbers.old) (length trace.old) (length (places boundaries.old)))
-            (best_division (by_count count) self.now)
-            (total_of (by_count count) (table_of_held self.now.held).loss (table_of_held self.now.held).length)
-            result boundaries.old boundaries.new numbers.old numbers.new trace.old trace.new }
-        ensures lender { boundaries.new.items.ghost_name ≡ boundaries.old.items.ghost_name }
-    {
-        cut_by_count(
-            &self.held,
-            self.held.length(),
-            &self.marks,
-            self.shortest,
-            count,
+            &constraints,
+            criterion,
             numbers,
             trace,
             boundaries,
@@ -179,14 +151,7 @@ impl Survey {
             result steps.old steps.new numbers.old numbers.new }
         ensures lender { steps.new.items.ghost_name ≡ steps.old.items.ghost_name }
     {
-        path(
-            &self.held,
-            self.held.length(),
-            &self.marks,
-            self.shortest,
-            numbers,
-            steps,
-        )
+        path(&self.held, &self.constraints(), numbers, steps)
     }
 
     // All that is told of a division of the readings.
