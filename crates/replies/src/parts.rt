@@ -15,7 +15,8 @@ use std::alloc::AllocError;
 fn low_two(n: usize) -> [u8; 2]
     ensures { result ≡ two_bytes n }
 {
-    [(n / 256 % 256) as u8, (n % 256) as u8]
+    let [.., high, low] = n.to_be_bytes();
+    [high, low]
 }
 
 // What stands before the boundaries of a cut.
