@@ -1,3 +1,4 @@
+mod LastDifference
 pub mod Best
 pub mod ByStretch
 pub mod Listed

@@ -1,6 +1,6 @@
 -- Marks, and the divisions that they and the shortest stretch allow.
-use Rattle.std.specs.Prelude.{◌≡◌, ℕ, suc, ◌<◌, ◌≤◌, Bool, true, cond, ◌&&◌, List, [], ◌∷◌, ◌==◌, nat_le, nat_lt}
-use Rattle.std.specs.List.{AllByRecursion}
+use Rattle.std.specs.Prelude.{◌≡◌, ℕ, suc, ◌<◌, ◌≤◌, Bool, cond, ◌&&◌, List, [], ◌∷◌, ◌==◌, nat_le, nat_lt}
+use Rattle.std.specs.List.{AllByRecursion, list_all}
 use Rattle.division.specs.declared.mark.Mark.{Mark}
 use Rattle.division.specs.Division.{Division, division, LongEnough, long_enough}
 
@@ -24,8 +24,7 @@ abbrev pub obeys : List ℕ → Mark → Bool
 obeys ds k = boundaries_in k ds == k.boundaries
 
 abbrev pub obeys_all : List ℕ → List Mark → Bool
-obeys_all ds [] = true
-obeys_all ds (k ∷ ks) = obeys ds k && obeys_all ds ks
+obeys_all ds marks = list_all (obeys ds) marks
 
 -- ds is allowed: a division of n readings, each stretch of at least m readings, that obeys every mark
 pub record Allowed (marks : List Mark) (m n : ℕ) (ds : List ℕ) : Type 0 where

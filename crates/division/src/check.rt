@@ -1,5 +1,6 @@
 // The rules as tests of a list of gaps.
-ghost use Rattle.std.specs.Prelude.{◌≡◌, ◌+◌, nat_le};
+ghost use Rattle.std.specs.Prelude.{◌≡◌, ◌+◌, ◌==◌, not, reverse, nat_le};
+ghost use Rattle.std.specs.List.{find, zip};
 ghost use Rattle.division.specs.Division.{division, long_enough};
 ghost use Rattle.division.specs.Marks.{allowed, obeys_all};
 ghost use Rattle.division.specs.Order.{later};
@@ -38,12 +39,7 @@ pub fn is_division(n: u16, gaps: &[u16]) -> bool
 pub fn obeys_every(marks: &[Mark], gaps: &[u16]) -> bool
     ensures { result ≡ obeys_all gaps.now marks.now }
 {
-    for mark in marks {
-        if !mark.is_obeyed(gaps) {
-            return false;
-        }
-    }
-    true
+    marks.iter().all(|mark| mark.is_obeyed(gaps))
 }
 
 // Is it a division of n readings, long enough and obedient?
@@ -53,6 +49,15 @@ pub fn is_allowed(marks: &[Mark], m: u16, n: u16, gaps: &[u16]) -> bool
     is_division(n, gaps) && is_long_enough(m, n, gaps) && obeys_every(marks, gaps)
 }
 
+// The last place where two lists of one length differ, with what each has there.
+fn last_difference(d: &[u16], e: &[u16]) -> Option<(u16, u16)>
+    ensures { result ≡ find (λ p. not (p.0 == p.1)) (zip (reverse d.now) (reverse e.now)) }
+{
+    let d_from_behind = d.iter().rev().copied();
+    let e_from_behind = e.iter().rev().copied();
+    d_from_behind.zip(e_from_behind).find(|(x, y)| x != y)
+}
+
 // Of two divisions that cost as much: has d fewer boundaries, or as many and the later one where they last differ?
 pub fn is_later(d: &[u16], e: &[u16]) -> bool
     ensures { result ≡ later d.now e.now }
@@ -60,10 +65,5 @@ pub fn is_later(d: &[u16], e: &[u16]) -> bool
     if d.len() != e.len() {
         return d.len() < e.len();
     }
-    for i in (0..d.len()).rev() {
-        if d[i] != e[i] {
-            return d[i] > e[i];
-        }
-    }
-    false
+    last_difference(d, e).is_some_and(|(x, y)| x > y)
 }

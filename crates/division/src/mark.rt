@@ -22,13 +22,7 @@ impl Mark {
     pub fn count_in(self, gaps: &[u16]) -> usize
         ensures { result ≡ boundaries_in self gaps.now }
     {
-        let mut count: usize = 0;
-        for gap in gaps {
-            if self.has(*gap) {
-                count += 1;
-            }
-        }
-        count
+        gaps.iter().filter(|gap| self.has(**gap)).count()
     }
 
     // Does the division obey the mark?

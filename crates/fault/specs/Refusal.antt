@@ -1,5 +1,5 @@
 -- What an answer says of the first cause that applies: an answer is given exactly where there is none.
-use Rattle.std.specs.Prelude.{◌≡◌, Some, None, Ok, Err, Option, Result}
+use Rattle.std.specs.Prelude.{◌≡◌, Bool, cond, Some, None, Ok, Err, Option, Result}
 use Rattle.fault.specs.declared.Fault.{Fault}
 use Rattle.fault.specs.declared.Failure.{Failure}
 use Rattle.fault.specs.declared.Failure.TheVariants.{Refused, OutOfMemory}
@@ -24,3 +24,7 @@ FailedFor cause (Err OutOfMemory) = cause ≡ None
 abbrev pub or_else : Option Fault → Option Fault → Option Fault
 or_else None later = later
 or_else (Some f) later = Some f
+
+-- the fault, where the test applies
+abbrev pub when : Bool → Fault → Option Fault
+when test f = cond test (Some f) None

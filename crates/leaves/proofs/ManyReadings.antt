@@ -1,25 +1,14 @@
 -- Readings that are offered together: each of those that fit is taken in its turn.
-use Rattle.std.proofs.Common.{◌≡◌, ℕ, ◌+◌, ◌<◌, ◌≤◌, Bool, true, false, ltb, leb, List, [], ◌∷◌, ◌++◌, length, get_or, take, ℤ, pos, Ok, Err, Decides, sym, refl, ap, ◌∙◌, append_assoc, arith}
-use Rattle.std.proofs.ByRecursion.{All-get_or, Decides-by_and}
+use Rattle.std.proofs.Common.{◌≡◌, ℕ, ◌+◌, ◌<◌, ◌≤◌, true, ltb, leb, List, [], ◌∷◌, ◌++◌, length, get_or, take, ℤ, pos, Ok, Err, sym, ap, ◌∙◌, append_assoc, arith}
 use Rattle.std.proofs.lemmas.List.{length-append, length-take, take_more}
+use Rattle.std.proofs.lemmas.List.Sums.{AllPass-from_list_all}
 use Rattle.std.proofs.lemmas.Bool.Decides.{nat_tests}
-use Rattle.std.specs.List.{AllByRecursion}
 use Rattle.fault.specs.declared.Fault.{Fault}
 use Rattle.leaves.specs.Taking.{between, all_between, taken, after, gathered, after_all}
 
 module _ (lo : ℤ) (span : ℕ) (ys : List ℤ) where
-  pub all_between_decides : Decides (all_between lo span ys) (AllByRecursion (λ y. between lo span y ≡ true) ys)
-  all_between_decides = Decides-by_and (between lo span) (λ y. between lo span y ≡ true) (all_between lo span) (λ y. (λ e. e, λ e. e)) refl (λ _ _. refl) ys
-
-  pub each_between : all_between lo span ys ≡ true → (i : ℕ) → i < length ys → between lo span (get_or ys i (pos 0)) ≡ true
-  each_between h i lt = All-get_or (λ y. between lo span y ≡ true) ys i (pos 0) lt (all_between_decides.0 h)
-
-  pub one_outside : (i : ℕ) → i < length ys → between lo span (get_or ys i (pos 0)) ≡ false → all_between lo span ys ≡ false
-  one_outside i lt out = go (all_between lo span ys) refl
-    where
-      go : (b : Bool) → all_between lo span ys ≡ b → b ≡ false
-      go true h = cc (each_between h i lt)
-      go false h = refl
+  each_between : all_between lo span ys ≡ true → (i : ℕ) → i < length ys → between lo span (get_or ys i (pos 0)) ≡ true
+  each_between h i lt = AllPass-from_list_all (between lo span) ys h i (pos 0) lt
 
   -- the next of those that fit, where those before it are taken
   module _ (was : List ℤ) (fit : all_between lo span ys ≡ true) (room : length was + length ys ≤ 512) (i : ℕ) (lt : i < length ys) (xs : List ℤ) (so_far : xs ≡ was ++ take i ys) where

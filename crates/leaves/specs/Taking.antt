@@ -1,5 +1,6 @@
 -- What becomes of readings that are offered to a loss of the levels lo to lo + span that holds the readings xs.
-use Rattle.std.specs.Prelude.{ℕ, ◌+◌, Bool, true, cond, ◌&&◌, List, [], ◌∷◌, ◌++◌, length, ℤ, pos, ◌+ℤ◌, ◌-ℤ◌, Ok, Err, Result, int_le, nat_le, nat_lt, unsigned_abs}
+use Rattle.std.specs.Prelude.{ℕ, ◌+◌, Bool, cond, ◌&&◌, List, [], ◌∷◌, ◌++◌, length, ℤ, pos, ◌+ℤ◌, ◌-ℤ◌, Ok, Err, Result, int_le, nat_le, nat_lt, unsigned_abs}
+use Rattle.std.specs.List.{list_all}
 use Rattle.fault.specs.declared.Fault.{Fault}
 use Rattle.fault.specs.declared.Fault.TheVariants.{ReadingOutOfRange, TooManyReadings}
 
@@ -9,8 +10,7 @@ between lo span x = int_le lo x && int_le x (lo +ℤ pos span)
 
 -- whether each of ys is
 abbrev pub all_between : ℤ → ℕ → List ℤ → Bool
-all_between lo span [] = true
-all_between lo span (y ∷ ys) = between lo span y && all_between lo span ys
+all_between lo span ys = list_all (between lo span) ys
 
 -- a reading that is none of the levels is refused; then, so is one past 512
 abbrev pub taken : ℤ → ℕ → List ℤ → ℤ → Result (Unit {0}) Fault

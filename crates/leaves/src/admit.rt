@@ -3,9 +3,7 @@ ghost use Rattle.std.specs.Prelude.{◌≡◌};
 ghost use Rattle.leaves.specs.Taking.{between, admitted};
 
 use fault::Fault;
-
-// The most readings that a loss holds.
-pub const MOST_READINGS: usize = 512;
+use loss::limits::MOST_READINGS;
 
 // The lowest reading of 16 bits, and how far above it the highest is.
 pub const LOWEST: i32 = -32768;
@@ -26,7 +24,7 @@ pub fn admit(lo: i32, span: u16, held: usize, x: i32) -> Result<u16, Fault>
     if !is_between(lo, span, x) {
         return Err(Fault::ReadingOutOfRange);
     }
-    if held >= MOST_READINGS {
+    if held >= usize::from(MOST_READINGS) {
         return Err(Fault::TooManyReadings);
     }
     Ok((i64::from(x) - i64::from(lo)) as u16)

@@ -2,21 +2,16 @@
 ghost use Rattle.std.specs.Prelude.{◌≡◌};
 ghost use Rattle.leaves.specs.Taking.{all_between, gathered, after_all};
 
-use crate::admit::MOST_READINGS;
 use crate::model::Leaf;
 use fault::Fault;
+use loss::limits::MOST_READINGS;
 use loss::model::Loss;
 
 // Whether each of xs is a reading for the loss.
 pub fn accepts_all<L: Leaf>(xs: &[i32]) -> bool
     ensures { result ≡ all_between L.Leaf.lo L.Leaf.span xs.now }
 {
-    for x in xs {
-        if !L::accepts(*x) {
-            return false;
-        }
-    }
-    true
+    xs.iter().all(|x| L::accepts(*x))
 }
 
 // Takes the readings in their order, all of them or none. Refused where one is out of range, then where they would be more than 512.
@@ -27,7 +22,7 @@ pub fn gather<L: Leaf>(leaf: &mut L, xs: &[i32]) -> Result<(), Fault>
     if !accepts_all::<L>(xs) {
         return Err(Fault::ReadingOutOfRange);
     }
-    if leaf.length() as usize + xs.len() > MOST_READINGS {
+    if usize::from(leaf.length()) + xs.len() > usize::from(MOST_READINGS) {
         return Err(Fault::TooManyReadings);
     }
     for x in xs {

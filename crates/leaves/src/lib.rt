@@ -4,6 +4,7 @@
 pub mod admit;
 pub mod distances;
 pub mod gather;
+mod held;
 pub mod kind;
 pub mod model;
 pub mod squares;

@@ -1,19 +1,22 @@
 // Readings from -32768 to 32767. A stretch loses the least sum of squares of their distances from one whole level.
 ghost use Rattle.std.specs.Prelude.{◌≡◌, ◌≤◌, length};
-ghost use Rattle.leaves.specs.Kept.{Before, Low, itself, squared};
+ghost use Rattle.leaves.specs.Kept.{Before};
 
 pub mod methods;
 
-// Each reading is kept as its distance from the lowest level, with the sums of those before it and of their squares.
+use crate::held::Held;
+
+// The sum of some readings' distances from the lowest level, and the sum of the squares of these distances.
+#[derive(Clone, Copy)]
+struct Sums {
+    distances: u64,
+    squares: u64,
+}
+
+// The readings, and for each place the sums over those before it.
 #[derive(Drop)]
 pub struct Squares {
-    len: usize,
-    items: [u16; 512],
-    sums: [u64; 513],
-    squares: [u64; 513],
-    ghost few: { len ≤ 512 },
-    ghost room: { length items ≡ 512 },
-    ghost low: { Low 65535 len items },
-    ghost adds: { Before itself len items sums },
-    ghost powers: { Before squared len items squares },
+    held: Held<65535>,
+    before: [Sums; 513],
+    ghost adds: { Before held.distances.items before },
 }

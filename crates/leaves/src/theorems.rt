@@ -9,11 +9,9 @@ use fault::Fault;
 use loss::model::Loss;
 
 // Some whole level costs the loss and none costs less, no other number is so, and levels outside the readings' range can be left out.
-pub fn least_stands() -> u8
+pub fn least_stands()
     ensures { (LeastOfAll) × ((LeastIsOne) × ((LeastBetween) × ((ReachedBetween) × (PricesRise)))) }
-{
-    0
-}
+{}
 
 // The loss of a stretch. An answer is the least over all whole levels, and over the levels that a reading may have.
 pub fn least_over_levels<L: Leaf>(leaf: &L, a: u16, b: u16) -> Result<u64, Fault>

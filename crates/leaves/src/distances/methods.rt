@@ -1,13 +1,15 @@
 // How readings are taken, and what stretches lose, by distances.
-ghost use Rattle.std.specs.Prelude.{◌≡◌, ℕ, ◌+◌, ◌-◌, ◌<◌, ◌≤◌, [], length};
+ghost use Rattle.std.specs.Prelude.{◌≡◌, ℕ, ◌+◌, ◌-◌, ◌<◌, ◌≤◌, [], length, nat_le};
 ghost use Rattle.leaves.specs.Readings.{lowest, distance, table_of};
-ghost use Rattle.leaves.specs.Kept.{sum_of, up_to, cost};
+ghost use Rattle.std.specs.List.{count_by};
+ghost use Rattle.leaves.specs.Kept.{cost};
 ghost use Rattle.leaves.specs.Held.{distances_readings};
-ghost use Rattle.leaves.specs.Soundness.{distances_sound, held_between, length_held};
+ghost use Rattle.leaves.specs.Soundness.{distances_sound, distances_few, held_between};
 ghost use Rattle.std.proofs.Common.{arith, rules};
 
-use crate::admit::{LOWEST, SPAN, admit, is_between};
+use crate::admit::{LOWEST, SPAN, is_between};
 use crate::distances::Distances;
+use crate::held::Held;
 use crate::model::Leaf;
 use fault::Fault;
 use loss::model::Loss;
@@ -17,10 +19,7 @@ impl Distances {
     pub fn new() -> Distances
         ensures { distances_readings result ≡ [] }
     {
-        Distances {
-            len: 0,
-            items: [0; 512],
-        }
+        Distances { held: Held::new() }
     }
 }
 
@@ -41,44 +40,34 @@ impl Leaf for Distances {
 
     ghost rises = { first_of (Prim.search rules, Prim.grind (arith, Self.row.coded.inj)) };
 
-    ghost fits = { λ x. held_between lowest 65535 x.len x.items x.low };
+    ghost fits = { λ x. held_between lowest 65535 x.held.distances.items x.held.low };
 
-    ghost few = { λ x. omega (arith, x.few, length_held lowest x.len x.items (omega (arith, x.few, x.room))) };
+    ghost few = { λ x. distances_few x };
 
     fn accepts(x: i32) -> bool {
         is_between(LOWEST, SPAN, x)
     }
 
     fn push(&mut self, x: i32) -> Result<(), Fault> {
-        let at = self.len;
-        let u = admit(LOWEST, SPAN, at, x)?;
-        self.items[at] = u;
-        self.len = at + 1;
+        self.held.push(LOWEST, x)?;
         Ok(())
     }
 }
 
 // How many readings stand at k or below.
-fn count_up_to(us: &[u16], k: u16) -> u16
-    requires { length us.now ≤ 512 }
-    ensures value { result ≡ sum_of (up_to k) us.now }
-    ensures small { result ≤ 512 }
+fn count_up_to(us: &[u16], k: u16) -> usize
+    ensures { result ≡ count_by (λ u. nat_le u k) us.now }
 {
-    let mut n: u16 = 0;
-    for u in us {
-        if *u <= k {
-            n += 1;
-        }
-    }
-    n
+    us.iter().filter(|u| **u <= k).count()
 }
 
 // The lowest level that half of the readings stand at or below: no level costs less.
+// A search over the levels, which stand in no list: the library's searches want a slice.
 fn middle(us: &[u16]) -> u16
     requires { length us.now ≤ 512 }
     ensures { (k : ℕ) → cost distance us.now result ≤ cost distance us.now k }
 {
-    let n = us.len() as u16;
+    let n = us.len();
     let mut low: u16 = 0;
     let mut high: u16 = 65535;
     while low < high {
@@ -98,11 +87,7 @@ fn cost_about(us: &[u16], v: u16) -> u32
     requires { length us.now ≤ 512 }
     ensures { result ≡ cost distance us.now v }
 {
-    let mut sum: u32 = 0;
-    for u in us {
-        sum += u32::from(u.abs_diff(v));
-    }
-    sum
+    us.iter().map(|u| u32::from(u.abs_diff(v))).sum()
 }
 
 impl Loss for Distances {
@@ -111,7 +96,7 @@ impl Loss for Distances {
     ghost sound = { λ x. distances_sound x };
 
     fn length(&self) -> u16 {
-        self.len as u16
+        self.held.length()
     }
 
     fn ceiling(&self) -> u64 {
@@ -119,12 +104,10 @@ impl Loss for Distances {
     }
 
     fn stretch(&self, a: u16, b: u16) -> Result<u64, Fault> {
-        let from = a as usize;
-        let to = b as usize;
-        if a >= b || to > self.len {
+        if !self.held.has_stretch(a, b) {
             return Err(Fault::BadStretch);
         }
-        let part = &self.items[from..to];
+        let part = &self.held.distances()[usize::from(a)..usize::from(b)];
         Ok(u64::from(cost_about(part, middle(part))))
     }
 }

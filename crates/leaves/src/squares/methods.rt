@@ -3,13 +3,14 @@ ghost use Rattle.std.specs.Prelude.{◌≡◌, ◌+◌, ◌-◌, ◌*◌, ◌/�
 ghost use Rattle.leaves.specs.Readings.{lowest, square, table_of};
 ghost use Rattle.leaves.specs.Kept.{nearest};
 ghost use Rattle.leaves.specs.Held.{squares_readings};
-ghost use Rattle.leaves.specs.Soundness.{squares_sound, held_between, length_held};
+ghost use Rattle.leaves.specs.Soundness.{squares_sound, squares_few, held_between};
 ghost use Rattle.leaves.specs.LeastLevel.{rising_square};
 ghost use Rattle.std.proofs.Common.{arith, rules};
 
-use crate::admit::{LOWEST, SPAN, admit, is_between};
+use crate::admit::{LOWEST, SPAN, is_between};
+use crate::held::Held;
 use crate::model::Leaf;
-use crate::squares::Squares;
+use crate::squares::{Squares, Sums};
 use fault::Fault;
 use loss::model::Loss;
 
@@ -18,11 +19,13 @@ impl Squares {
     pub fn new() -> Squares
         ensures { squares_readings result ≡ [] }
     {
+        let none = Sums {
+            distances: 0,
+            squares: 0,
+        };
         Squares {
-            len: 0,
-            items: [0; 512],
-            sums: [0; 513],
-            squares: [0; 513],
+            held: Held::new(),
+            before: [none; 513],
         }
     }
 }
@@ -44,22 +47,22 @@ impl Leaf for Squares {
 
     ghost rises = { rising_square };
 
-    ghost fits = { λ x. held_between lowest 65535 x.len x.items x.low };
+    ghost fits = { λ x. held_between lowest 65535 x.held.distances.items x.held.low };
 
-    ghost few = { λ x. omega (arith, x.few, length_held lowest x.len x.items (omega (arith, x.few, x.room))) };
+    ghost few = { λ x. squares_few x };
 
     fn accepts(x: i32) -> bool {
         is_between(LOWEST, SPAN, x)
     }
 
     fn push(&mut self, x: i32) -> Result<(), Fault> {
-        let at = self.len;
-        let u = admit(LOWEST, SPAN, at, x)?;
-        let wide = u64::from(u);
-        self.items[at] = u;
-        self.sums[at + 1] = self.sums[at] + wide;
-        self.squares[at + 1] = self.squares[at] + wide * wide;
-        self.len = at + 1;
+        let at = self.held.distances().len();
+        let distance = u64::from(self.held.push(LOWEST, x)?);
+        let sums = self.before[at];
+        self.before[at + 1] = Sums {
+            distances: sums.distances + distance,
+            squares: sums.squares + distance * distance,
+        };
         Ok(())
     }
 }
@@ -80,7 +83,7 @@ impl Loss for Squares {
     ghost sound = { λ x. squares_sound x };
 
     fn length(&self) -> u16 {
-        self.len as u16
+        self.held.length()
     }
 
     fn ceiling(&self) -> u64 {
@@ -88,14 +91,14 @@ impl Loss for Squares {
     }
 
     fn stretch(&self, a: u16, b: u16) -> Result<u64, Fault> {
-        let from = a as usize;
-        let to = b as usize;
-        if a >= b || to > self.len {
+        if !self.held.has_stretch(a, b) {
             return Err(Fault::BadStretch);
         }
-        let n = (b - a) as u64;
-        let s = self.sums[to] - self.sums[from];
-        let q = self.squares[to] - self.squares[from];
+        let before = self.before[usize::from(a)];
+        let all = self.before[usize::from(b)];
+        let n = u64::from(b - a);
+        let s = all.distances - before.distances;
+        let q = all.squares - before.squares;
         let v = nearest_level(s, n);
         Ok(q + n * v * v - 2 * v * s)
     }

@@ -1,11 +1,13 @@
 // How readings are taken, and what stretches lose, by votes.
-ghost use Rattle.std.specs.Prelude.{◌≡◌, ℕ, ◌+◌, ◌-◌, ◌<◌, ◌≤◌, [], length, pos, slice_index};
+ghost use Rattle.std.specs.Prelude.{◌≡◌, ◌-◌, max, [], map, pos};
+ghost use Rattle.std.specs.List.{fold, zip};
 ghost use Rattle.leaves.specs.Readings.{differs, table_of};
 ghost use Rattle.leaves.specs.Held.{votes_readings};
-ghost use Rattle.leaves.specs.Soundness.{votes_sound, held_between, length_held};
+ghost use Rattle.leaves.specs.Soundness.{votes_sound, votes_few, held_between};
 ghost use Rattle.std.proofs.Common.{arith, rules};
 
-use crate::admit::{admit, is_between};
+use crate::admit::is_between;
+use crate::held::Held;
 use crate::model::Leaf;
 use crate::votes::Votes;
 use fault::Fault;
@@ -17,8 +19,7 @@ impl Votes {
         ensures { votes_readings result ≡ [] }
     {
         Votes {
-            len: 0,
-            items: [0; 512],
+            held: Held::new(),
             counts: [[0; 16]; 513],
         }
     }
@@ -41,40 +42,31 @@ impl Leaf for Votes {
 
     ghost rises = { first_of (Prim.search rules, Prim.grind (arith, Self.row.coded.inj)) };
 
-    ghost fits = { λ x. held_between (pos 0) 15 x.len x.items x.low };
+    ghost fits = { λ x. held_between (pos 0) 15 x.held.distances.items x.held.low };
 
-    ghost few = { λ x. omega (arith, x.few, length_held (pos 0) x.len x.items (omega (arith, x.few, x.room))) };
+    ghost few = { λ x. votes_few x };
 
     fn accepts(x: i32) -> bool {
         is_between(0, 15, x)
     }
 
     fn push(&mut self, x: i32) -> Result<(), Fault> {
-        let at = self.len;
-        let u = admit(0, 15, at, x)?;
+        let at = self.held.distances().len();
+        let code = self.held.push(0, x)?;
         let mut row = self.counts[at];
-        row[u as usize] += 1;
+        row[usize::from(code)] += 1;
         self.counts[at + 1] = row;
-        self.items[at] = u;
-        self.len = at + 1;
         Ok(())
     }
 }
 
 // The most readings that one class has between two places, from the counts before each.
-fn most_votes(before: &[u16], after: &[u16]) -> u16
-    requires { (length before.now ≡ 16) × ((length after.now ≡ 16) × (((k : ℕ) → k < 16 → slice_index before.now k ≤ slice_index after.now k))) }
-    ensures top { (k : ℕ) → k < 16 → slice_index after.now k ≤ slice_index before.now k + result }
-    ensures reached { (k : ℕ) × (k < 16) × (slice_index after.now k ≡ slice_index before.now k + result) }
+fn most_votes(before: &[u16; 16], after: &[u16; 16]) -> u16
+    ensures { result ≡ fold max 0 (map (λ p. p.0 - p.1) (zip after.now before.now)) }
 {
-    let mut most = after[0] - before[0];
-    for k in 1..16 {
-        let votes = after[k] - before[k];
-        if votes > most {
-            most = votes;
-        }
-    }
-    most
+    let rows = after.iter().zip(before.iter());
+    let votes = rows.map(|(after, before)| after.saturating_sub(*before));
+    votes.fold(0, |most, votes| most.max(votes))
 }
 
 impl Loss for Votes {
@@ -83,7 +75,7 @@ impl Loss for Votes {
     ghost sound = { λ x. votes_sound x };
 
     fn length(&self) -> u16 {
-        self.len as u16
+        self.held.length()
     }
 
     fn ceiling(&self) -> u64 {
@@ -91,12 +83,12 @@ impl Loss for Votes {
     }
 
     fn stretch(&self, a: u16, b: u16) -> Result<u64, Fault> {
-        let from = a as usize;
-        let to = b as usize;
-        if a >= b || to > self.len {
+        if !self.held.has_stretch(a, b) {
             return Err(Fault::BadStretch);
         }
-        let most = most_votes(&self.counts[from], &self.counts[to]);
+        let before = &self.counts[usize::from(a)];
+        let after = &self.counts[usize::from(b)];
+        let most = most_votes(before, after);
         Ok(u64::from(b - a - most))
     }
 }

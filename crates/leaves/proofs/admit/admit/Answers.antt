@@ -4,7 +4,7 @@ use Rattle.leaves.specs.Taking.{between}
 use Rattle.leaves.proofs.Admission.{between_tells, admitted_at}
 use Rattle.leaves.proofs.admit.admit.Goals as goal
 
-fits : (c : goal.After-from-2) → between c.args.lo c.args.span c.args.x ≡ true
+fits : (c : goal.After-from-3) → between c.args.lo c.args.span c.args.x ≡ true
 fits c =
     let x_Fits = c.ranges.x in
     let lo-fits = c.ranges.lo in
@@ -15,5 +15,5 @@ overflow_cast-result c = let h = between_tells c.args.lo c.args.span c.args.x (f
 
 pub returns : goal.returns
 returns c =
-    let far = to_z w64 (of_z w64 c.from.result) -ℤ to_z w64 (of_z w64 c.from-2.result) in
+    let far = to_z w64 (of_z w64 c.from-2.result) -ℤ to_z w64 (of_z w64 c.from-3.result) in
     admitted_at c.args.lo c.args.span c.args.held c.args.x (to_z w64 (of_z w64 far)) (fits c) (omega arith) (omega (arith, ints))

@@ -1,22 +1,15 @@
-use Rattle.std.proofs.Common.{sym, ◌∙◌, arith}
-use Rattle.std.proofs.lemmas.List.{at_drop_all}
-use Rattle.division.specs.Marks.{boundaries_in}
-use Rattle.division.proofs.Walked.{next_gap}
+use Rattle.std.proofs.Common.{◌≡◌, ℕ, suc, ◌+◌, Bool, true, false, cond, ◌∙◌, rules, sym, refl, arith}
+use Rattle.std.proofs.lemmas.List.Recursion.{is_count_by}
+use Rattle.std.specs.List.{count_by}
+use Rattle.division.specs.Marks.{covers, boundaries_in}
 use Rattle.division.proofs.mark.Mark.count_in.Goals as goal
-use Rattle.division.proofs.mark.Mark.count_in.Goals.{then-has, else-has}
 
-pub loop-gap-preserved : goal.loop-gap-preserved
-loop-gap-preserved c =
-    let e = c.has.ensures in
-    elim c.if-has.branch [
-      | then-has w ↦ (
-          let n = next_gap c.args.self c.args.gaps.now c.loop-gap.gap-index _ c.loop-gap-test.true (sym w.if-has.true ∙ e) in
-          (omega (arith, n, w.count-is), omega (arith, w.count-is)))
-      | else-has w ↦ (
-          let n = next_gap c.args.self c.args.gaps.now c.loop-gap.gap-index _ c.loop-gap-test.true (sym w.if-has.false ∙ e) in
-          (omega (arith, n, w.count-is), omega (arith, w.count-is)))
-    ]
+one_more : (b : Bool) (n : ℕ) → cond b (suc n) n ≡ cond b (1 + n) n
+one_more true n = omega arith
+one_more false n = refl
 
 pub returns : goal.returns
 returns c =
-    omega (arith, c.loop-gap.invariant.0, at_drop_all (boundaries_in c.args.self) c.args.gaps.now c.loop-gap.gap-index c.loop-gap-test.false)
+    let k = c.args.self in
+    let h : c.count.result ≡ count_by (covers k) c.args.gaps.now = search rules in
+    h ∙ sym (is_count_by (boundaries_in k) (covers k) refl (λ d ds. one_more (covers k d) (boundaries_in k ds)) c.args.gaps.now)

@@ -1,0 +1,7 @@
+// The limits that every layer above keeps.
+
+// The most readings that a line has.
+pub const MOST_READINGS: u16 = 512;
+
+// The largest penalty for a boundary.
+pub const LARGEST_PENALTY: u64 = 1 << 49;
