@@ -4,3 +4,4 @@ mod Gathered
 mod Back
 mod Printed
 mod Spaced
+mod ByName

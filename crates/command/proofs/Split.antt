@@ -1,52 +1,37 @@
 -- The first word of a text and the words behind it.
-use Rattle.std.proofs.Common.{◌≡◌, ℕ, ◌+◌, ◌<◌, Bool, true, false, cond, not, List, [], ◌∷◌, ◌++◌, length, get_or, take, drop, sym, refl, ap, ◌∙◌, inl, inr, one-add, arith}
-use mathlib.Core.Bool.{beq}
-use Rattle.std.specs.List.{prefix_len}
-use Rattle.std.proofs.lemmas.List.{drop_more, length-drop, length-append, take-append-drop}
-use Rattle.std.proofs.lemmas.List.Sums.{prefix_len-drop_yes, prefix_len-drop_no}
-use Rattle.std.proofs.lemmas.Bool.{cases_Bool, false≢true}
-use Rattle.command.specs.Words.{blank, legible, all_legible, of_kind, word, words_after, words}
+use Rattle.std.proofs.Common.{◌≡◌, ℕ, ◌+◌, ◌-◌, ◌<◌, ◌≤◌, Bool, true, false, cond, not, ltb, List, [], ◌∷◌, ◌++◌, length, take, drop, Some, None, Option, sym, refl, ap, ◌∙◌, inl, inr, one-add, arith}
+use Rattle.std.specs.List.{position, position_or_len}
+use Rattle.std.proofs.lemmas.List.{length-drop, length-append, take-append-drop, take_rest, drop_all}
+use Rattle.std.proofs.lemmas.Bool.{cases_Bool, cases_lt, lt-ltb, le-ltb}
+use Rattle.std.specs.Option.{unwrap_or}
+use Rattle.std.proofs.lemmas.List.Sums.{prefix_len-le-length}
+use Rattle.command.specs.Words.{blank, word, words_after, words}
 
--- the next byte is legible, or is not
-pub legible_passes : (text : List ℕ) (i : ℕ) → i < length text → true ≡ legible (get_or text i 0) → all_legible (drop i text) ≡ all_legible (drop (i + 1) text)
-legible_passes text i h e = rw (drop_more text i 0 h, ← e)
+pub or_all : {X : Type 0} (p : X → Bool) (xs : List X) (at : Option ℕ) → at ≡ position p xs → unwrap_or at (length xs) ≡ position_or_len p xs
+or_all p xs at e = elim (cases_lt (position_or_len p xs) (length xs)) [
+  | inl l ↦ (let t = lt-ltb (position_or_len p xs) (length xs) l in rw e (simp t))
+  | inr l ↦ (let t = le-ltb (position_or_len p xs) (length xs) l in rw e (simp t (omega (arith, prefix_len-le-length (λ x. not (p x)) xs))))
+]
 
-pub legible_fails : (text : List ℕ) (i : ℕ) → i < length text → false ≡ legible (get_or text i 0) → all_legible (drop i text) ≡ false
-legible_fails text i h e = rw (drop_more text i 0 h, ← e)
+-- a byte that is looked for is found within the text, or every byte is passed over
+pub found : (i at size : ℕ) → Some i ≡ cond (ltb at size) (Some at) None → (i ≡ at) × (at < size)
+found i at size e = elim (cases_lt at size) [
+  | inl l ↦ (let t = lt-ltb at size l in (cc (simp t at e), l))
+  | inr l ↦ (let t = le-ltb at size l in let z : ◌≡◌ {A = ℕ} 0 1 = cc (simp t at e) in absurd (omega arith))
+]
 
-apart_from_test : (r k : Bool) → not (beq r k) ≡ true → r ≡ k → ⊥
-apart_from_test true true h e = false≢true h
-apart_from_test true false h e = false≢true (sym e)
-apart_from_test false true h e = false≢true e
-apart_from_test false false h e = false≢true h
-
-same_from_test : (r k : Bool) → not (beq r k) ≡ false → r ≡ k
-same_from_test true true h = refl
-same_from_test true false h = absurd (false≢true (sym h))
-same_from_test false true h = absurd (false≢true (sym h))
-same_from_test false false h = refl
-
-kind_yes : (blanks : Bool) (b : ℕ) → blank b ≡ blanks → of_kind blanks b ≡ true
-kind_yes true b e = e
-kind_yes false b e = ap not e
-
-kind_no : (blanks : Bool) (b : ℕ) → (blank b ≡ blanks → ⊥) → of_kind blanks b ≡ false
-kind_no true b apart = elim (cases_Bool (blank b)) [ inl e ↦ absurd (apart e) | inr e ↦ e ]
-kind_no false b apart = elim (cases_Bool (blank b)) [ inl e ↦ ap not e | inr e ↦ absurd (apart e) ]
-
--- a run goes on at a byte of its kind, and ends at another
-pub run_goes : (blanks r : Bool) (text : List ℕ) (i : ℕ) → i < length text → r ≡ blank (get_or text i 0) → not (beq r blanks) ≡ false → prefix_len (of_kind blanks) (drop i text) ≡ 1 + prefix_len (of_kind blanks) (drop (i + 1) text)
-run_goes blanks r text i h e t = prefix_len-drop_yes (of_kind blanks) text i 0 h (kind_yes blanks (get_or text i 0) (sym e ∙ same_from_test r blanks t))
-
-pub run_stops : (blanks r : Bool) (text : List ℕ) (i : ℕ) → i < length text → r ≡ blank (get_or text i 0) → not (beq r blanks) ≡ true → prefix_len (of_kind blanks) (drop i text) ≡ 0
-run_stops blanks r text i h e t = prefix_len-drop_no (of_kind blanks) text i 0 h (kind_no blanks (get_or text i 0) (λ same. apart_from_test r blanks t (e ∙ same)))
+pub passed_over : (at size : ℕ) → None ≡ cond (ltb at size) (Some at) None → size ≤ at
+passed_over at size e = elim (cases_lt at size) [
+  | inl l ↦ (let t = lt-ltb at size l in let z : ◌≡◌ {A = ℕ} 0 1 = cc (simp t at e) in absurd (omega arith))
+  | inr l ↦ l
+]
 
 -- a text without the blanks in front of it
 abbrev skipped : List ℕ → List ℕ
 skipped [] = []
 skipped (b ∷ text) = cond (blank b) (skipped text) (b ∷ text)
 
-skipped_is : (text : List ℕ) → drop (prefix_len (of_kind true) text) text ≡ skipped text
+skipped_is : (text : List ℕ) → drop (position_or_len (λ b. not (blank b)) text) text ≡ skipped text
 skipped_is [] = refl
 skipped_is (b ∷ text) = elim (cases_Bool (blank b)) [ inl e ↦ simp (e, one-add) (skipped_is text) | inr e ↦ simp e ]
 
@@ -67,43 +52,57 @@ skipped_begins (b ∷ text) = go (blank b) refl (skipped_begins text)
     go true e more = more
     go false e more = e
 
-word_is : (text : List ℕ) → take (prefix_len (of_kind false) text) text ≡ word text
+word_is : (text : List ℕ) → take (position_or_len blank text) text ≡ word text
 word_is [] = refl
 word_is (b ∷ text) = elim (cases_Bool (blank b)) [ inl e ↦ simp e | inr e ↦ simp (e, one-add) (ap (λ (w : List ℕ). b ∷ w) (word_is text)) ]
 
-behind_is : (text : List ℕ) → words_after true text ≡ words (drop (prefix_len (of_kind false) text) text)
+behind_is : (text : List ℕ) → words_after true text ≡ words (drop (position_or_len blank text) text)
 behind_is [] = refl
 behind_is (b ∷ text) = elim (cases_Bool (blank b)) [ inl e ↦ simp e | inr e ↦ simp (e, one-add) (behind_is text) ]
 
-first_is : (text : List ℕ) → Begins text → (length (word text) ≡ 0 → ⊥) → words text ≡ word text ∷ words (drop (prefix_len (of_kind false) text) text)
-first_is [] begins some = absurd (some refl)
+first_is : (text : List ℕ) → Begins text → 0 < length text → words text ≡ word text ∷ words (drop (position_or_len blank text) text)
+first_is [] begins some = absurd (omega arith)
 first_is (b ∷ text) e some = simp (e, one-add) (ap (λ (ws : List (List ℕ)). (b ∷ word text) ∷ ws) (behind_is text))
 
-none_is : (text : List ℕ) → Begins text → length (word text) ≡ 0 → words text ≡ []
-none_is [] begins none = refl
-none_is (b ∷ text) e none = absurd (omega (arith, simp e at none))
+word_some : (text : List ℕ) → Begins text → 0 < length text → 0 < length (word text)
+word_some [] begins some = absurd (omega arith)
+word_some (b ∷ text) e some = simp e (omega arith)
 
--- what is left of a text behind its blanks
-module _ (text left : List ℕ) (n : ℕ) (n-is : n ≡ prefix_len (of_kind true) text) (left_is : left ≡ drop n text) where
+pub none_left : (text : List ℕ) → None ≡ position (λ b. not (blank b)) text → words text ≡ []
+none_left text e =
+    let over = passed_over (position_or_len (λ b. not (blank b)) text) (length text) e in
+    words_skipped text ∙ ap words (sym (skipped_is text) ∙ drop_all (position_or_len (λ b. not (blank b)) text) text over)
+
+-- the text behind its blanks, cut behind its first word
+module _ (text left : List ℕ) (n : ℕ) (n-is : Some n ≡ position (λ b. not (blank b)) text) (left-is : left ≡ take (length text - n) (drop n text)) where
+  left_dropped : left ≡ drop n text
+  left_dropped = left-is ∙ take_rest text n
+
   left_skipped : left ≡ skipped text
-  left_skipped = left_is ∙ ap (λ k. drop k text) n-is ∙ skipped_is text
+  left_skipped = left_dropped ∙ ap (λ k. drop k text) (found n (position_or_len (λ b. not (blank b)) text) (length text) n-is).0 ∙ skipped_is text
 
-  module _ (first : List ℕ) (m : ℕ) (m-is : m ≡ prefix_len (of_kind false) left) (first-front : first ≡ take m left) where
-    first_word : first ≡ word (skipped text)
-    first_word = first-front ∙ ap (λ k. take k left) m-is ∙ word_is left ∙ ap word left_skipped
+  shorter : length left + n ≡ length text
+  shorter = let f = found n (position_or_len (λ b. not (blank b)) text) (length text) n-is in omega (arith, f.0, f.1, ap length left_dropped, length-drop n text)
 
-    pub none_left : length first ≡ 0 → words text ≡ []
-    none_left z = words_skipped text ∙ none_is (skipped text) (skipped_begins text) (sym (ap length first_word) ∙ z)
+  some : 0 < length (skipped text)
+  some = let f = found n (position_or_len (λ b. not (blank b)) text) (length text) n-is in omega (arith, ap length left_skipped, shorter, f.0, f.1)
 
-    pub first_left : (rest : List ℕ) → rest ≡ drop m left → (length first ≡ 0 → ⊥) → (words text ≡ first ∷ words rest) × (length rest < length text)
-    first_left rest rest_is some = (
-      words_skipped text ∙ first_is (skipped text) (skipped_begins text) (λ z. some (ap length first_word ∙ z))
-          ∙ rw (← left_skipped, ← m-is, ← rest_is, ← word_is left, ← m-is, ← first-front),
-      shorter,
+  module _ (m : ℕ) (at : Option ℕ) (at-is : at ≡ position blank left) (m-is : m ≡ unwrap_or at (length left)) where
+    m_first : m ≡ position_or_len blank left
+    m_first = m-is ∙ or_all blank left at at-is
+
+    pub word_within : m ≤ length left
+    word_within = omega (arith, m_first, prefix_len-le-length (λ b. not (blank b)) left)
+
+    pub first_left : (first rest : List ℕ) → first ≡ take m left → rest ≡ drop m left → (words text ≡ first ∷ words rest) × (length rest < length text)
+    first_left first rest first-is rest-is = (
+      words_skipped text ∙ first_is (skipped text) (skipped_begins text) some
+          ∙ rw (first-is, rest-is, m_first, left_skipped, word_is (skipped text)) refl,
+      omega (arith, ap length front, word_some (skipped text) (skipped_begins text) some, ap length whole, length-append first rest, shorter),
     )
       where
-        whole : first ++ rest ≡ left
-        whole = rw (first-front, rest_is) (take-append-drop m left)
+        front : first ≡ word (skipped text)
+        front = first-is ∙ ap (λ k. take k left) m_first ∙ word_is left ∙ ap word left_skipped
 
-        shorter : length rest < length text
-        shorter = omega (arith, some, ap length left_is, length-drop n text, ap length whole, length-append first rest)
+        whole : first ++ rest ≡ left
+        whole = rw (first-is, rest-is) (take-append-drop m left)

@@ -40,3 +40,8 @@ abbrev pub Answers : {T X : Type 0} → (T → X) → Result X Fault → Result 
 Answers says due (Ok t) = due ≡ Ok (says t)
 Answers says due (Err (Refused f)) = due ≡ Err f
 Answers says due (Err OutOfMemory) = Unit {0}
+
+-- the same of code that allocates nothing
+abbrev pub Says : {T X : Type 0} → (T → X) → Result X Fault → Result T Fault → Type 0
+Says says due (Ok t) = due ≡ Ok (says t)
+Says says due (Err f) = due ≡ Err f

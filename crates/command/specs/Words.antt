@@ -1,5 +1,6 @@
 -- Blanks, and the words between them.
-use Rattle.std.specs.Prelude.{ℕ, Bool, true, false, cond, not, ◌&&◌, ◌||◌, List, [], ◌∷◌, ◌==◌, nat_le}
+use Rattle.std.specs.Prelude.{ℕ, Bool, true, false, cond, ◌&&◌, ◌||◌, List, [], ◌∷◌, ◌==◌, nat_le}
+use Rattle.std.specs.List.{list_all}
 
 -- a space, a tab or a carriage return
 abbrev pub blank : ℕ → Bool
@@ -10,13 +11,7 @@ abbrev pub legible : ℕ → Bool
 legible b = blank b || (nat_le 33 b && nat_le b 126)
 
 abbrev pub all_legible : List ℕ → Bool
-all_legible [] = true
-all_legible (b ∷ text) = legible b && all_legible text
-
--- a blank where `blanks` says so, and else a byte of a word
-abbrev pub of_kind : Bool → ℕ → Bool
-of_kind true b = blank b
-of_kind false b = not (blank b)
+all_legible text = list_all legible text
 
 -- what stands before the first blank
 abbrev pub word : List ℕ → List ℕ

@@ -50,7 +50,7 @@ pub fn read(heap: Global, line: &[u8]) -> Result<Command, Failure>
     ensures { Answers said (read_line line.now) result }
 {
     if line.len() > LONGEST || !is_all_legible(line) {
-        return Err(Failure::Refused(Fault::MalformedLine));
+        return Err(Fault::MalformedLine.into());
     }
     match next_word(line) {
         None => Ok(Command::Nothing),

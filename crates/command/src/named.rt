@@ -1,9 +1,9 @@
 // Each command by its name, with the words that it takes.
-ghost use Rattle.std.specs.Prelude.{◌≡◌, Ok, Err, vec_items, MatchResult, ◌==◌, slice_index};
-ghost use Rattle.std.specs.Str.{bytes_eq};
+ghost use Rattle.std.specs.Prelude.{◌≡◌, [], ◌∷◌, Ok, Err, vec_items, MatchResult};
+ghost use Rattle.fault.specs.declared.Fault.TheVariants.{UnknownFrame};
 ghost use Rattle.command.specs.Words.{words};
-ghost use Rattle.command.specs.Line.{number, read_all, alone, one, three, to_loss, to_readings, to_mark, to_unmark, to_shortest, behind_at, to_price, to_best, by_name};
-ghost use Rattle.command.specs.Said.{Answers, said};
+ghost use Rattle.command.specs.Line.{and_then, number, read_all, alone, one, three, loss_named, to_readings, to_mark, behind_at, to_price, to_best, by_name};
+ghost use Rattle.command.specs.Said.{Answers, Says, said, loss, mark};
 
 use crate::Command;
 use crate::number::Field;
@@ -13,28 +13,11 @@ use fault::{Failure, Fault};
 use leaves::kind::LossKind;
 use std::alloc::Global;
 
-// Is the word that name?
-fn is(word: &[u8], name: &[u8]) -> bool
-    ensures { result ≡ bytes_eq word.now name.now }
-{
-    word == name
-}
-
-// Does a comment begin with the word?
-fn is_comment(word: &[u8]) -> bool
-    ensures { result ≡ (slice_index word.now 0 == 35) }
-{
-    matches!(word, [b'#', ..])
-}
-
 // The number that a word writes.
 fn field<T: Field>(word: &[u8]) -> Result<T, Fault>
     ensures { result ≡ number (T.Field.means word.now) }
 {
-    match T::from_word(word) {
-        Some(x) => Ok(x),
-        None => Err(Fault::MalformedLine),
-    }
+    T::from_word(word).ok_or(Fault::MalformedLine)
 }
 
 // The numbers that the words of a text write.
@@ -51,55 +34,59 @@ fn fields<T: Field + Drop>(heap: Global, text: &[u8]) -> Result<Vec<T>, Failure>
 }
 
 // The command, where no word is left.
-fn alone(command: Command, text: &[u8]) -> Result<Command, Failure>
-    ensures { Answers said (alone (said command) (words text.now)) result }
+fn alone(command: Command, text: &[u8]) -> Result<Command, Fault>
+    ensures { Says said (alone (said command) (words text.now)) result }
 {
     match next_word(text) {
         None => Ok(command),
-        Some(_) => Err(Failure::Refused(Fault::UnknownFrame)),
+        Some(_) => Err(Fault::UnknownFrame),
     }
+}
+
+// The first word, and what stands behind it.
+fn first(text: &[u8]) -> Result<(&[u8], &[u8]), Fault>
+    ensures { MatchResult result (λ p. words text.now ≡ p.0.now ∷ words p.1.now) (λ e. (words text.now ≡ []) × (e ≡ UnknownFrame)) }
+{
+    next_word(text).ok_or(Fault::UnknownFrame)
 }
 
 // The only word.
 fn one(text: &[u8]) -> Result<&[u8], Fault>
     ensures { MatchResult result (λ w. one (words text.now) ≡ Ok w.now) (λ e. one (words text.now) ≡ Err e) }
 {
-    let Some((word, rest)) = next_word(text) else {
-        return Err(Fault::UnknownFrame);
-    };
+    let (word, rest) = first(text)?;
     match next_word(rest) {
         None => Ok(word),
         Some(_) => Err(Fault::UnknownFrame),
     }
 }
 
+// The number that the only word writes.
+fn only<T: Field>(text: &[u8]) -> Result<T, Fault>
+    ensures { result ≡ and_then (one (words text.now)) (λ w. number (T.Field.means w)) }
+{
+    field(one(text)?)
+}
+
 // The three words.
 fn three(text: &[u8]) -> Result<(&[u8], &[u8], &[u8]), Fault>
     ensures { MatchResult result (λ t. three (words text.now) ≡ Ok (t.0.now, t.1.now, t.2.now)) (λ e. three (words text.now) ≡ Err e) }
 {
-    let Some((first, rest)) = next_word(text) else {
-        return Err(Fault::UnknownFrame);
-    };
-    let Some((second, rest)) = next_word(rest) else {
-        return Err(Fault::UnknownFrame);
-    };
+    let (first_word, rest) = first(text)?;
+    let (second, rest) = first(rest)?;
     let third = one(rest)?;
-    Ok((first, second, third))
+    Ok((first_word, second, third))
 }
 
-// loss squares | loss distances | loss votes
-fn loss(text: &[u8]) -> Result<Command, Failure>
-    ensures { Answers said (to_loss (words text.now)) result }
+// squares | distances | votes
+fn loss_kind(name: &[u8]) -> Result<LossKind, Fault>
+    ensures { Says loss (loss_named name.now) result }
 {
-    let kind = one(text)?;
-    if is(kind, b"squares") {
-        Ok(Command::Loss(LossKind::Squares))
-    } else if is(kind, b"distances") {
-        Ok(Command::Loss(LossKind::Distances))
-    } else if is(kind, b"votes") {
-        Ok(Command::Loss(LossKind::Votes))
-    } else {
-        Err(Failure::Refused(Fault::UnknownFrame))
+    match name {
+        b"squares" => Ok(LossKind::Squares),
+        b"distances" => Ok(LossKind::Distances),
+        b"votes" => Ok(LossKind::Votes),
+        _ => Err(Fault::UnknownFrame),
     }
 }
 
@@ -107,41 +94,23 @@ fn loss(text: &[u8]) -> Result<Command, Failure>
 fn readings(heap: Global, text: &[u8]) -> Result<Command, Failure>
     ensures { Answers said (to_readings (words text.now)) result }
 {
-    if next_word(text).is_none() {
-        return Err(Failure::Refused(Fault::UnknownFrame));
-    }
+    first(text)?;
     Ok(Command::Readings(fields(heap, text)?))
 }
 
 // mark FIRST LAST BOUNDARIES
-fn mark(text: &[u8]) -> Result<Command, Failure>
-    ensures { Answers said (to_mark (words text.now)) result }
+fn mark(text: &[u8]) -> Result<Mark, Fault>
+    ensures { Says mark (to_mark (words text.now)) result }
 {
     let (first, last, boundaries) = three(text)?;
     let first = field(first)?;
     let last = field(last)?;
     let boundaries = field(boundaries)?;
-    Ok(Command::Mark(Mark {
+    Ok(Mark {
         first,
         last,
         boundaries,
-    }))
-}
-
-// unmark FIRST
-fn unmark(text: &[u8]) -> Result<Command, Failure>
-    ensures { Answers said (to_unmark (words text.now)) result }
-{
-    let first = field(one(text)?)?;
-    Ok(Command::Unmark(first))
-}
-
-// shortest M
-fn shortest(text: &[u8]) -> Result<Command, Failure>
-    ensures { Answers said (to_shortest (words text.now)) result }
-{
-    let m = field(one(text)?)?;
-    Ok(Command::Shortest(m))
+    })
 }
 
 // What stands behind the word `at`, or nothing.
@@ -150,7 +119,7 @@ fn behind_at(text: &[u8]) -> Result<&[u8], Fault>
 {
     match next_word(text) {
         None => Ok(text),
-        Some((word, rest)) if is(word, b"at") => Ok(rest),
+        Some((b"at", rest)) => Ok(rest),
         Some(_) => Err(Fault::UnknownFrame),
     }
 }
@@ -159,9 +128,7 @@ fn behind_at(text: &[u8]) -> Result<&[u8], Fault>
 fn price(heap: Global, text: &[u8]) -> Result<Command, Failure>
     ensures { Answers said (to_price (words text.now)) result }
 {
-    let Some((penalty, rest)) = next_word(text) else {
-        return Err(Failure::Refused(Fault::UnknownFrame));
-    };
+    let (penalty, rest) = first(text)?;
     let gaps = behind_at(rest)?;
     let penalty = field(penalty)?;
     let gaps = fields(heap, gaps)?;
@@ -169,49 +136,34 @@ fn price(heap: Global, text: &[u8]) -> Result<Command, Failure>
 }
 
 // best PENALTY, or best count COUNT
-fn best(text: &[u8]) -> Result<Command, Failure>
-    ensures { Answers said (to_best (words text.now)) result }
+fn best(text: &[u8]) -> Result<Command, Fault>
+    ensures { Says said (to_best (words text.now)) result }
 {
-    let Some((word, rest)) = next_word(text) else {
-        return Err(Failure::Refused(Fault::UnknownFrame));
-    };
+    let (word, rest) = first(text)?;
     if next_word(rest).is_none() {
-        let penalty = field(word)?;
-        return Ok(Command::BestByPenalty(penalty));
+        return Ok(Command::BestByPenalty(field(word)?));
     }
-    let last = one(rest)?;
-    if !is(word, b"count") {
-        return Err(Failure::Refused(Fault::UnknownFrame));
+    match word {
+        b"count" => Ok(Command::BestByCount(only(rest)?)),
+        _ => Err(Fault::UnknownFrame),
     }
-    let count = field(last)?;
-    Ok(Command::BestByCount(count))
 }
 
 // The command of that name, with the words of the text.
 pub fn command(heap: Global, name: &[u8], text: &[u8]) -> Result<Command, Failure>
     ensures { Answers said (by_name name.now (words text.now)) result }
 {
-    if is_comment(name) {
-        Ok(Command::Nothing)
-    } else if is(name, b"help") {
-        alone(Command::Help, text)
-    } else if is(name, b"loss") {
-        loss(text)
-    } else if is(name, b"readings") {
-        readings(heap, text)
-    } else if is(name, b"mark") {
-        mark(text)
-    } else if is(name, b"unmark") {
-        unmark(text)
-    } else if is(name, b"shortest") {
-        shortest(text)
-    } else if is(name, b"price") {
-        price(heap, text)
-    } else if is(name, b"best") {
-        best(text)
-    } else if is(name, b"path") {
-        alone(Command::Path, text)
-    } else {
-        Err(Failure::Refused(Fault::UnknownFrame))
+    match name {
+        [b'#', ..] => Ok(Command::Nothing),
+        b"help" => Ok(alone(Command::Help, text)?),
+        b"loss" => Ok(Command::Loss(loss_kind(one(text)?)?)),
+        b"readings" => readings(heap, text),
+        b"mark" => Ok(Command::Mark(mark(text)?)),
+        b"unmark" => Ok(Command::Unmark(only(text)?)),
+        b"shortest" => Ok(Command::Shortest(only(text)?)),
+        b"price" => price(heap, text),
+        b"best" => Ok(best(text)?),
+        b"path" => Ok(alone(Command::Path, text)?),
+        _ => Err(Fault::UnknownFrame.into()),
     }
 }

@@ -19,6 +19,7 @@ pub fn natural(word: &[u8]) -> Option<u64>
     if word.is_empty() {
         return None;
     }
+    // A loop: `try_fold` says too little of where it stops.
     let mut n: u64 = 0;
     for b in word {
         n = n.saturating_mul(10).saturating_add(u64::from(digit(*b)?));
@@ -34,6 +35,7 @@ pub trait Field: Sized {
         ensures { result ≡ means word.now };
 }
 
+// An impl for each width: no bound of std gives a type's largest number, so one impl for all would need a trait of constants first.
 impl Field for u64 {
     ghost means = { natural 64 };
 

@@ -1,8 +1,9 @@
 // A line of digits as the bytes that it writes.
-ghost use Rattle.std.specs.Prelude.{◌≡◌, ◌≤◌, length, take, drop, Some, None, MatchOption};
+ghost use Rattle.std.specs.Prelude.{◌≡◌, ◌≤◌, length, Some, None, MatchOption};
 ghost use Rattle.hexadecimal.specs.Digits.{digit_value, bytes_in};
 ghost use Rattle.hexadecimal.specs.Line.{line_bytes, how_many, laid_over};
 
+use arrayvec::ArrayVec;
 use fault::Fault;
 
 // The most bytes of a line, and the most digits.
@@ -24,21 +25,20 @@ fn digit(c: u8) -> Option<u8>
     }
 }
 
-// Writes the bytes of the digits to the front of `bytes`, and says how many they are.
-fn read_digits(digits: &[u8], bytes: &mut [u8; MOST_BYTES]) -> Option<usize>
+// The bytes that the digits write.
+fn read_digits(digits: &[u8]) -> Option<ArrayVec<u8, MOST_BYTES>>
     requires { length digits.now ≤ 130 }
-    ensures { MatchOption result (bytes_in digits.now ≡ None) (λ n. (n ≤ 65) × (bytes_in digits.now ≡ Some (take n bytes.new)) × (drop n bytes.new ≡ drop n bytes.old)) }
+    ensures { MatchOption result (bytes_in digits.now ≡ None) (λ bytes. bytes_in digits.now ≡ Some bytes.items) }
 {
+    let mut bytes = ArrayVec::new();
     let mut left = digits;
-    let mut n = 0;
     while let [a, b, rest @ ..] = left {
         let high = digit(*a)?;
         let low = digit(*b)?;
-        bytes[n] = high * 16 + low;
-        n += 1;
+        bytes.push(high * 16 + low);
         left = rest;
     }
-    if left.is_empty() { Some(n) } else { None }
+    if left.is_empty() { Some(bytes) } else { None }
 }
 
 // Reads a line, without its line end, into `bytes`, and says how many bytes it has. Refused with 11, where it is empty, has an odd
@@ -50,12 +50,8 @@ pub fn read_line(line: &[u8], bytes: &mut [u8; MOST_BYTES]) -> Result<usize, Fau
     if line.is_empty() || line.len() > MOST_DIGITS {
         return Err(Fault::MalformedLine);
     }
-    let mut read = *bytes;
-    match read_digits(line, &mut read) {
-        Some(n) => {
-            *bytes = read;
-            Ok(n)
-        }
-        None => Err(Fault::MalformedLine),
-    }
+    let read = read_digits(line).ok_or(Fault::MalformedLine)?;
+    let n = read.len();
+    bytes[..n].copy_from_slice(read.as_slice());
+    Ok(n)
 }

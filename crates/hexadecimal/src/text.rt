@@ -1,6 +1,7 @@
 // Bytes as text in hexadecimal.
-ghost use Rattle.std.specs.Prelude.{◌≡◌, ◌<◌, ◌++◌, is_ok, if◌then◌else◌};
+ghost use Rattle.std.specs.Prelude.{◌≡◌, ◌<◌};
 ghost use Rattle.hexadecimal.specs.Digits.{digit_for, text_of};
+ghost use Rattle.hexadecimal.specs.Text.{Appends};
 
 use std::alloc::AllocError;
 
@@ -17,7 +18,7 @@ fn digit_for(value: u8) -> u8
 
 // Appends the digits of the bytes. Where memory is wanting, nothing is appended.
 pub fn put_text(out: &mut Vec<u8>, bytes: &[u8]) -> Result<(), AllocError>
-    ensures { out.new.items ≡ (if is_ok result then out.old.items ++ text_of bytes.now else out.old.items) }
+    ensures { Appends (text_of bytes.now) out.old.items out.new.items result }
 {
     out.reserve(2 * bytes.len())?;
     for b in bytes {

@@ -12,7 +12,7 @@ pub record Read (S : Type 0) : Type 0 where
 
 -- what is kept of the line that has begun
 abbrev pub front_of : LineReader → List ℕ
-front_of r = take r.len r.front
+front_of r = r.front.items
 
 abbrev pub read_by : {S : Type 0} → LineReader → S → List ℕ → Read S
 read_by r s text = record { line = front_of r; lines = r.lines; state = s; text = text }

@@ -5,13 +5,11 @@ ghost use Rattle.inputs.specs.Reading.{front_of, read_by, ended, next, closed};
 
 use crate::model::Answerer;
 use crate::reader::LineReader;
+use arrayvec::ArrayVec;
 use std::alloc::AllocError;
 
 // The most lines that are read.
 pub const MOST_LINES: u16 = 65535;
-
-// How many bytes decide what a line says.
-const FRONT: usize = 131;
 
 impl LineReader {
     // Nothing is read.
@@ -19,8 +17,7 @@ impl LineReader {
         ensures { (front_of result ≡ []) × (result.lines ≡ 0) }
     {
         LineReader {
-            front: [0; 131],
-            len: 0,
+            front: ArrayVec::new(),
             lines: 0,
         }
     }
@@ -42,9 +39,9 @@ impl LineReader {
         ensures { OnOk result (read_by self.new (A.Answerer.state answerer.new) out.new.items ≡ ended A.Answerer.step A.Answerer.reply (read_by self.old (A.Answerer.state answerer.old) out.old.items)) }
     {
         self.lines += 1;
-        answerer.answer(&self.front[0..self.len], self.lines, out)?;
+        answerer.answer(self.front.as_slice(), self.lines, out)?;
         out.push(b'\n')?;
-        self.len = 0;
+        self.front.clear();
         Ok(())
     }
 
@@ -63,9 +60,8 @@ impl LineReader {
         if byte == b'\n' {
             return self.end_line(answerer, out);
         }
-        if self.len < FRONT {
-            self.front[self.len] = byte;
-            self.len += 1;
+        if !self.front.is_full() {
+            self.front.push(byte);
         }
         Ok(())
     }
@@ -93,7 +89,7 @@ impl LineReader {
     ) -> Result<(), AllocError>
         ensures { OnOk result (read_by self.new (A.Answerer.state answerer.new) out.new.items ≡ closed A.Answerer.step A.Answerer.reply (read_by self.old (A.Answerer.state answerer.old) out.old.items)) }
     {
-        if self.len == 0 || self.lines == MOST_LINES {
+        if self.front.is_empty() || self.lines == MOST_LINES {
             return Ok(());
         }
         self.end_line(answerer, out)

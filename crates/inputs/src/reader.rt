@@ -1,11 +1,12 @@
 // The line that is being read, and how many have ended.
-ghost use Rattle.std.specs.Prelude.{◌≤◌};
+use arrayvec::ArrayVec;
 
-// Of the line at most 131 bytes are kept.
+// So many bytes decide what a line says.
+pub(crate) const FRONT: usize = 131;
+
+// Of the line the first bytes are kept.
 #[derive(Drop)]
 pub struct LineReader {
-    pub(crate) front: [u8; 131],
-    pub(crate) len: usize,
+    pub(crate) front: ArrayVec<u8, FRONT>,
     pub(crate) lines: u16,
-    ghost few: { len ≤ 131 },
 }

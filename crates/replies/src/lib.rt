@@ -1,7 +1,7 @@
 // The replies of a session, printed as upper-case hexadecimal.
 #![tactic(auto)]
 
-ghost use Rattle.std.specs.Prelude.{◌≡◌, ◌++◌, is_ok, if◌then◌else◌};
+ghost use Rattle.hexadecimal.specs.Text.{Appends};
 ghost use Rattle.replies.specs.Answered.{refusal, answered, reply_bytes, reply_text};
 ghost use Rattle.replies.specs.Put.{Put};
 
@@ -40,7 +40,7 @@ pub enum Reply<'a> {
 
 // Appends the text of a refusal, without a line end. Where memory is wanting, nothing is appended.
 pub fn put_refusal(out: &mut Vec<u8>, fault: Fault, line: u16) -> Result<(), AllocError>
-    ensures { out.new.items ≡ (if is_ok result then out.old.items ++ reply_text (refusal fault line) else out.old.items) }
+    ensures { Appends (reply_text (refusal fault line)) out.old.items out.new.items result }
 {
     let [high, low] = line.to_be_bytes();
     put_text(out, &[0xee, fault.number(), high, low])
@@ -65,14 +65,12 @@ fn put_parts(out: &mut Vec<u8>, reply: &Reply<'_>) -> Result<(), AllocError>
 
 // Appends the text of a reply, without a line end. Where memory is wanting, nothing is appended.
 pub fn put_reply(out: &mut Vec<u8>, reply: &Reply<'_>) -> Result<(), AllocError>
-    ensures { out.new.items ≡ (if is_ok result then out.old.items ++ reply_text (answered reply.now) else out.old.items) }
+    ensures { Appends (reply_text (answered reply.now)) out.old.items out.new.items result }
 {
     let before = out.len();
-    match put_parts(out, reply) {
-        Ok(()) => Ok(()),
-        Err(error) => {
-            out.truncate(before);
-            Err(error)
-        }
+    let put = put_parts(out, reply);
+    if put.is_err() {
+        out.truncate(before);
     }
+    put
 }

@@ -1,6 +1,8 @@
 // The parts of replies: a kind, numbers in two and eight bytes, and lists of them.
-ghost use Rattle.std.specs.Prelude.{◌≡◌, ◌∷◌, ◌++◌};
+ghost use Rattle.std.specs.Prelude.{◌≡◌, ℕ, List, ◌∷◌, ◌++◌};
 ghost use Rattle.std.specs.List.{flat_map};
+ghost use Rattle.hexadecimal.specs.Digits.{text_of};
+ghost use Rattle.hexadecimal.specs.Text.{Appends};
 ghost use Rattle.frames.specs.Numbers.{two_bytes, eight_bytes};
 ghost use Rattle.replies.specs.Answered.{step_bytes, cut_bytes, path_bytes};
 ghost use Rattle.replies.specs.Put.{Put};
@@ -13,7 +15,8 @@ use std::alloc::AllocError;
 fn low_two(n: usize) -> [u8; 2]
     ensures { result ≡ two_bytes n }
 {
-    [(n / 256 % 256) as u8, (n % 256) as u8]
+    let [.., high, low] = n.to_be_bytes();
+    [high, low]
 }
 
 // What stands before the boundaries of a cut.
@@ -51,12 +54,38 @@ pub fn put_number(out: &mut Vec<u8>, kind: u8, n: u16) -> Result<(), AllocError>
     put_text(out, &[kind, high, low])
 }
 
-// Appends each boundary.
-fn put_boundaries(out: &mut Vec<u8>, boundaries: &[u16]) -> Result<(), AllocError>
-    ensures { Put (flat_map two_bytes boundaries.now) out.old.items out.new.items result }
+// What a list in a reply holds.
+trait Entry {
+    ghost bytes: { Self → List ℕ };
+
+    // Appends its bytes.
+    fn put(&self, out: &mut Vec<u8>) -> Result<(), AllocError>
+        ensures { Appends (text_of (bytes self.now)) out.old.items out.new.items result };
+}
+
+// A boundary.
+impl Entry for u16 {
+    ghost bytes = { two_bytes };
+
+    fn put(&self, out: &mut Vec<u8>) -> Result<(), AllocError> {
+        put_text(out, &self.to_be_bytes())
+    }
+}
+
+impl Entry for Step {
+    ghost bytes = { step_bytes };
+
+    fn put(&self, out: &mut Vec<u8>) -> Result<(), AllocError> {
+        put_text(out, &step_bytes(*self))
+    }
+}
+
+// Appends each entry.
+fn put_each<T: Entry>(out: &mut Vec<u8>, entries: &[T]) -> Result<(), AllocError>
+    ensures { Put (flat_map T.bytes entries.now) out.old.items out.new.items result }
 {
-    for gap in boundaries {
-        put_text(out, &gap.to_be_bytes())?;
+    for entry in entries {
+        entry.put(out)?;
     }
     Ok(())
 }
@@ -71,17 +100,7 @@ pub fn put_cut(
     ensures { Put (kind ∷ cut_bytes total boundaries.now) out.old.items out.new.items result }
 {
     put_text(out, &cut_front(kind, total, boundaries.len()))?;
-    put_boundaries(out, boundaries)
-}
-
-// Appends each step.
-fn put_steps(out: &mut Vec<u8>, steps: &[Step]) -> Result<(), AllocError>
-    ensures { Put (flat_map step_bytes steps.now) out.old.items out.new.items result }
-{
-    for step in steps {
-        put_text(out, &step_bytes(*step))?;
-    }
-    Ok(())
+    put_each(out, boundaries)
 }
 
 // Appends the number of steps and each of them.
@@ -89,5 +108,5 @@ pub fn put_path(out: &mut Vec<u8>, steps: &[Step]) -> Result<(), AllocError>
     ensures { Put (0x32 ∷ path_bytes steps.now) out.old.items out.new.items result }
 {
     put_text(out, &path_front(steps.len()))?;
-    put_steps(out, steps)
+    put_each(out, steps)
 }

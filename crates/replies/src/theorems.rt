@@ -2,8 +2,6 @@
 ghost use Rattle.replies.specs.Theorems.{RepliesDiffer};
 
 // Different replies have different texts.
-pub fn replies_differ() -> u8
+pub fn replies_differ()
     ensures { RepliesDiffer }
-{
-    0
-}
+{}

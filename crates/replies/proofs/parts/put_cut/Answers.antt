@@ -14,6 +14,6 @@ returns-in_err-put_text c =
 pub returns : goal.returns
 returns c =
     let gaps = c.args.boundaries.now in
-    put_then c.put_boundaries.result (c.args.kind ∷ (eight_bytes c.args.total ++ two_bytes (length gaps))) (flat_map two_bytes gaps) (vec_items c.args.out.now)
-    (vec_items c.put_text.new.out) (vec_items c.put_boundaries.new.out)
-    (c.in_ok-put_text.ensures ∙ ap (λ bs. vec_items c.args.out.now ++ text_of bs) c.cut_front.ensures) c.put_boundaries.ensures
+    put_then c.put_each.result (c.args.kind ∷ (eight_bytes c.args.total ++ two_bytes (length gaps))) (flat_map two_bytes gaps) (vec_items c.args.out.now)
+    (vec_items c.put_text.new.out) (vec_items c.put_each.new.out)
+    (c.in_ok-put_text.ensures ∙ ap (λ bs. vec_items c.args.out.now ++ text_of bs) c.cut_front.ensures) c.put_each.ensures

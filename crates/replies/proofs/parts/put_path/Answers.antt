@@ -15,6 +15,6 @@ returns-in_err-put_text c =
 pub returns : goal.returns
 returns c =
     let steps = c.args.steps.now in
-    put_then c.put_steps.result (0x32 ∷ two_bytes (length steps)) (flat_map step_bytes steps) (vec_items c.args.out.now) (vec_items c.put_text.new.out)
-    (vec_items c.put_steps.new.out)
-    (c.in_ok-put_text.ensures ∙ ap (λ bs. vec_items c.args.out.now ++ text_of bs) c.path_front.ensures) c.put_steps.ensures
+    put_then c.put_each.result (0x32 ∷ two_bytes (length steps)) (flat_map step_bytes steps) (vec_items c.args.out.now) (vec_items c.put_text.new.out)
+    (vec_items c.put_each.new.out)
+    (c.in_ok-put_text.ensures ∙ ap (λ bs. vec_items c.args.out.now ++ text_of bs) c.path_front.ensures) c.put_each.ensures
