@@ -1,7 +1,7 @@
 // One command after the other, on the line that is worked on.
 use crate::buffers::Buffers;
 use crate::problem::Problem;
-use crate::show::{Best, kind_name, show_best, show_comparison, show_help, show_path, show_report};
+use crate::show::{kind_name, show_best, show_comparison, show_help, show_path, show_report};
 use command::{Command, read};
 use cuts::criterion::Criterion;
 use division::mark::Mark;
@@ -107,14 +107,7 @@ impl Console {
             self.buffers.trace.as_mut_slice(),
             &mut list,
         );
-        let winner = match found {
-            Ok(total) => Some(Best {
-                total,
-                boundaries: list.as_slice(),
-            }),
-            Err(_) => None,
-        };
-        show_comparison(rt, gaps, report.total, winner)?;
+        show_comparison(rt, gaps, report.total, found.ok(), list.as_slice())?;
         Ok(())
     }
 
@@ -126,11 +119,7 @@ impl Console {
             self.buffers.trace.as_mut_slice(),
             &mut list,
         )?;
-        let best = Best {
-            total,
-            boundaries: list.as_slice(),
-        };
-        show_best(rt, criterion, best)?;
+        show_best(rt, criterion, total, list.as_slice())?;
         Ok(())
     }
 

@@ -96,21 +96,18 @@ fn show_sums(rt: &HostRuntime, shortest: u16, report: &Report) -> io::Result<()>
     println!(rt; "  {verdict}")
 }
 
-// The winner: its total and its boundaries.
-#[derive(Clone, Copy)]
-pub struct Best<'a> {
-    pub total: u64,
-    pub boundaries: &'a [u16],
-}
-
 // What was asked for, the boundaries of the winner, and its total.
-pub fn show_best(rt: &HostRuntime, criterion: Criterion, best: Best<'_>) -> io::Result<()> {
+pub fn show_best(
+    rt: &HostRuntime,
+    criterion: Criterion,
+    total: u64,
+    boundaries: &[u16],
+) -> io::Result<()> {
     match criterion {
         Criterion::Penalty(penalty) => print!(rt; "best {penalty}: ")?,
         Criterion::Count(count) => print!(rt; "best count {count}: ")?,
     }
-    show_boundaries(rt, best.boundaries)?;
-    let total = best.total;
+    show_boundaries(rt, boundaries)?;
     println!(rt; ", total {total}")
 }
 
@@ -125,22 +122,23 @@ fn show_boundaries(rt: &HostRuntime, gaps: &[u16]) -> io::Result<()> {
     Ok(())
 }
 
-// Whether the division that was printed, of this total, is the winner, and else which one is; no winner where none is allowed.
+// Whether the division that was printed, of this total, is the winner, and else which one is. The winner has the least total, and the
+// boundaries `best`; there is none where no division is allowed.
 pub fn show_comparison(
     rt: &HostRuntime,
     printed: &[u16],
     total: u64,
-    winner: Option<Best<'_>>,
+    least: Option<u64>,
+    best: &[u16],
 ) -> io::Result<()> {
-    let Some(best) = winner else {
+    let Some(least) = least else {
         return println!(rt; "  no division is allowed");
     };
-    if printed == best.boundaries {
+    if printed == best {
         return println!(rt; "  the winner");
     }
     print!(rt; "  the winner has ")?;
-    show_boundaries(rt, best.boundaries)?;
-    let least = best.total;
+    show_boundaries(rt, best)?;
     if least <= total {
         let less = total - least;
         println!(rt; ", total {least}: {less} less")
