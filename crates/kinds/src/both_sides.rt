@@ -4,8 +4,7 @@ ghost use Rattle.frames.specs.declared.size.ReadingSize.TheVariants.{Three};
 ghost use Rattle.kinds.specs.Sides.{Sides, brought, codes_fit, together, code_of, pair_table};
 ghost use Rattle.kinds.specs.Held.{both_sides, pair_sound};
 ghost use Rattle.std.proofs.Common.{arith, rules};
-ghost use Rattle.leaves.specs.Readings.{lowest};
-ghost use Rattle.leaves.specs.Soundness.{length_held};
+ghost use Rattle.leaves.specs.Soundness.{squares_few};
 
 use crate::model::FrameReadings;
 use crate::pair_readings::PairReadings;
@@ -78,7 +77,7 @@ impl FrameReadings for PairReadings {
 
     ghost counted = { first_of (Prim.search rules, Prim.grind (arith, Self.row.coded.inj)) };
 
-    ghost few = { λ x. let p = x.pair.port in omega (arith, p.few, length_held lowest p.len p.items (omega (arith, p.few, p.room))) };
+    ghost few = { λ x. squares_few x.pair.port };
 
     ghost light = { first_of (Prim.search rules, Prim.grind (arith, Self.row.coded.inj)) };
 

@@ -3,9 +3,8 @@ ghost use Rattle.std.specs.Prelude.{◌≡◌};
 ghost use Rattle.frames.specs.declared.size.ReadingSize.TheVariants.{Two};
 ghost use Rattle.kinds.specs.Sides.{port_table};
 ghost use Rattle.kinds.specs.Held.{port_alone};
-ghost use Rattle.std.proofs.Common.{arith, rules};
-ghost use Rattle.leaves.specs.Readings.{lowest};
-ghost use Rattle.leaves.specs.Soundness.{length_held};
+ghost use Rattle.std.proofs.Common.{rules};
+ghost use Rattle.leaves.specs.Soundness.{squares_few};
 
 use crate::model::FrameReadings;
 use loss::limits::MOST_READINGS;
@@ -27,7 +26,7 @@ impl FrameReadings for Squares {
 
     ghost counted = { Prim.search rules };
 
-    ghost few = { λ x. omega (arith, x.few, length_held lowest x.len x.items (omega (arith, x.few, x.room))) };
+    ghost few = { λ x. squares_few x };
 
     ghost light = { Prim.search rules };
 

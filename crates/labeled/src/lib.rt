@@ -7,32 +7,24 @@ ghost use Rattle.labeled.specs.Problem.{WinnerSolves, WinnerKeptBetween, NoWinne
 use leaves::model::Leaf;
 
 // The winner's total is the least cost over all allowed gaps and all rows of whole levels that change only at chosen gaps.
-pub fn winner_solves() -> u8
+pub fn winner_solves()
     ensures solves { WinnerSolves }
     ensures between { WinnerKeptBetween }
     ensures none { NoWinnerNoChoice }
-{
-    0
-}
+{}
 
 // The same of the readings that a loss holds, and of the table that it answers from.
-pub fn problem_is_solved<L: Leaf>(leaf: &L) -> u8
+pub fn problem_is_solved<L: Leaf>(leaf: &L)
     ensures { SolvedBy L.Leaf.price L.Leaf.lo L.Leaf.span (L.Leaf.readings leaf.now) (L.Loss.table leaf.now) }
-{
-    0
-}
+{}
 
 // A row of levels costs what its stretches cost, and has one level on each.
-pub fn rows_split() -> u8
+pub fn rows_split()
     ensures splits { RowSplits }
     ensures level { OneLevel }
-{
-    0
-}
+{}
 
 // The worked examples hold of the rules.
-pub fn examples_hold() -> u8
+pub fn examples_hold()
     ensures { Examples }
-{
-    0
-}
+{}

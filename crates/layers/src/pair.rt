@@ -22,13 +22,8 @@ impl<P: Loss, S: Loss> Loss for Pair<P, S> {
     }
 
     fn ceiling(&self) -> u64 {
-        let port = self.port.ceiling();
-        let starboard = self.starboard.ceiling();
-        if port > HEAVIEST || starboard > HEAVIEST || port + starboard > HEAVIEST {
-            HEAVIEST + 1
-        } else {
-            port + starboard
-        }
+        let both = self.port.ceiling() + self.starboard.ceiling();
+        both.min(HEAVIEST + 1)
     }
 
     fn stretch(&self, a: u16, b: u16) -> Result<u64, Fault> {

@@ -23,15 +23,12 @@ impl<L: Loss> Loss for Weighted<L> {
 
     fn ceiling(&self) -> u64 {
         let below = self.below.ceiling();
+        // Too heavy below is too heavy at any weight, at 0 too.
         if below > HEAVIEST {
             return HEAVIEST + 1;
         }
-        let ceiling = u64::from(self.weight) * below;
-        if ceiling > HEAVIEST {
-            HEAVIEST + 1
-        } else {
-            ceiling
-        }
+        let weighted = u64::from(self.weight) * below;
+        weighted.min(HEAVIEST + 1)
     }
 
     fn stretch(&self, a: u16, b: u16) -> Result<u64, Fault> {

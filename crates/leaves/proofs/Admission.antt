@@ -1,6 +1,6 @@
 -- What the answer to a reading that is offered tells, and what is kept once it is taken.
-use Rattle.std.proofs.Common.{◌≡◌, ℕ, ◌<◌, ◌≤◌, Bool, true, false, cond, ltb, List, length, ℤ, ◌-ℤ◌, nat_abs, Ok, Err, refl, ap, ◌∙◌, arith, w32, SFits, to_z, of_z}
-use Rattle.std.proofs.lemmas.Int.{ints, to_z-of_z}
+use Rattle.std.proofs.Common.{◌≡◌, ℕ, ◌<◌, ◌≤◌, Bool, true, false, cond, ltb, ℤ, ◌-ℤ◌, nat_abs, Ok, Err, refl, arith}
+use Rattle.std.proofs.lemmas.Int.{ints}
 use Rattle.std.proofs.lemmas.Bool.Decides.{nat_tests}
 use Rattle.fault.specs.declared.Fault.TheVariants.{ReadingOutOfRange, TooManyReadings}
 use Rattle.leaves.specs.Readings.{Between}
@@ -18,9 +18,9 @@ given_tells true false m u h = let z : ◌≡◌ {A = ℕ} 0 1 = cc in absurd (o
 given_tells false t m u h = let z : ◌≡◌ {A = ℕ} 0 1 = cc in absurd (omega arith)
 
 -- a reading that is admitted is not the 513th, and is not too far from lo
-pub fitting : (lo : ℤ) (span : ℕ) (us : List ℕ) (x : ℤ) → SFits w32 x → (u : ℕ) → Ok u ≡ admitted lo span (length us) (to_z w32 (of_z w32 x)) → (length us < 512) × (u ≤ span)
-fitting lo span us x fits u h =
-    let t = given_tells (between lo span x) (ltb (length us) 512) (nat_abs (x -ℤ lo)) u (h ∙ ap (admitted lo span (length us)) (to_z-of_z w32 x fits)) in
+pub fitting : (lo : ℤ) (span held : ℕ) (x : ℤ) (u : ℕ) → Ok u ≡ admitted lo span held x → (held < 512) × (u ≤ span)
+fitting lo span held x u h =
+    let t = given_tells (between lo span x) (ltb held 512) (nat_abs (x -ℤ lo)) u h in
     let fit = between_tells lo span x t.0 in
     let lt = t.1 in
     (grind (arith, nat_tests), omega (arith, ints, fit.0, fit.1, t.2))
