@@ -4,12 +4,10 @@ ghost use Rattle.frames.specs.declared.size.ReadingSize.TheVariants.{Three};
 ghost use Rattle.kinds.specs.Sides.{Sides, brought, codes_fit, together, code_of, pair_table};
 ghost use Rattle.kinds.specs.Held.{both_sides, pair_sound};
 ghost use Rattle.std.proofs.Common.{arith, rules};
-ghost use Rattle.leaves.specs.Readings.{lowest};
-ghost use Rattle.leaves.specs.Soundness.{length_held};
+ghost use Rattle.leaves.specs.Soundness.{squares_few};
 
 use crate::model::FrameReadings;
 use crate::pair_readings::PairReadings;
-use cuts::refusal::MOST_READINGS;
 use fault::Fault;
 use frames::reading::{PairReading, next_pair};
 use frames::size::ReadingSize;
@@ -18,6 +16,7 @@ use layers::weighted::Weighted;
 use leaves::model::Leaf;
 use leaves::squares::Squares;
 use leaves::votes::Votes;
+use loss::limits::MOST_READINGS;
 use loss::model::Loss;
 
 // What a code of starboard weighs.
@@ -78,7 +77,7 @@ impl FrameReadings for PairReadings {
 
     ghost counted = { first_of (Prim.search rules, Prim.grind (arith, Self.row.coded.inj)) };
 
-    ghost few = { λ x. let p = x.pair.port in omega (arith, p.few, length_held lowest p.len p.items (omega (arith, p.few, p.room))) };
+    ghost few = { λ x. squares_few x.pair.port };
 
     ghost light = { first_of (Prim.search rules, Prim.grind (arith, Self.row.coded.inj)) };
 
@@ -102,7 +101,7 @@ impl FrameReadings for PairReadings {
         if !accepts_codes(readings) {
             return Err(Fault::ReadingOutOfRange);
         }
-        if self.length() as usize + readings.len() / 3 > MOST_READINGS as usize {
+        if usize::from(self.length()) + readings.len() / 3 > usize::from(MOST_READINGS) {
             return Err(Fault::TooManyReadings);
         }
         let mut left = readings;
