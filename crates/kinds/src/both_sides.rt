@@ -8,7 +8,6 @@ ghost use Rattle.leaves.specs.Soundness.{squares_few};
 
 use crate::model::FrameReadings;
 use crate::pair_readings::PairReadings;
-use loss::limits::MOST_READINGS;
 use fault::Fault;
 use frames::reading::{PairReading, next_pair};
 use frames::size::ReadingSize;
@@ -17,6 +16,7 @@ use layers::weighted::Weighted;
 use leaves::model::Leaf;
 use leaves::squares::Squares;
 use leaves::votes::Votes;
+use loss::limits::MOST_READINGS;
 use loss::model::Loss;
 
 // What a code of starboard weighs.
@@ -101,7 +101,7 @@ impl FrameReadings for PairReadings {
         if !accepts_codes(readings) {
             return Err(Fault::ReadingOutOfRange);
         }
-        if self.length() as usize + readings.len() / 3 > MOST_READINGS as usize {
+        if usize::from(self.length()) + readings.len() / 3 > usize::from(MOST_READINGS) {
             return Err(Fault::TooManyReadings);
         }
         let mut left = readings;

@@ -7,12 +7,12 @@ ghost use Rattle.std.proofs.Common.{rules};
 ghost use Rattle.leaves.specs.Soundness.{squares_few};
 
 use crate::model::FrameReadings;
-use loss::limits::MOST_READINGS;
 use fault::Fault;
 use frames::reading::next_reading;
 use frames::size::ReadingSize;
 use leaves::model::Leaf;
 use leaves::squares::Squares;
+use loss::limits::MOST_READINGS;
 use loss::model::Loss;
 
 impl FrameReadings for Squares {
@@ -26,7 +26,7 @@ impl FrameReadings for Squares {
 
     ghost counted = { Prim.search rules };
 
-    ghost few = { λ x. squares_few x };
+    ghost few = { squares_few };
 
     ghost light = { Prim.search rules };
 
@@ -39,7 +39,7 @@ impl FrameReadings for Squares {
     }
 
     fn take(&mut self, readings: &[u8]) -> Result<u16, Fault> {
-        if self.length() as usize + readings.len() / 2 > MOST_READINGS as usize {
+        if usize::from(self.length()) + readings.len() / 2 > usize::from(MOST_READINGS) {
             return Err(Fault::TooManyReadings);
         }
         let mut left = readings;

@@ -1,8 +1,6 @@
 // What the bytes of a frame bring, in words.
 ghost use Rattle.kinds.specs.Theorems.{BroughtInWords};
 
-pub fn brought_in_words() -> u8
+pub fn brought_in_words()
     ensures { BroughtInWords }
-{
-    0
-}
+{}

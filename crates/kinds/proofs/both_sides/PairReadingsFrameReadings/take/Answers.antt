@@ -6,11 +6,11 @@ use Rattle.kinds.specs.Held.{both_sides}
 use Rattle.kinds.proofs.Frames.{ports, refused, all_taken, codes_tell, next_both, room_both, last_both}
 use Rattle.kinds.proofs.both_sides.PairReadingsFrameReadings.take.Goals as goal
 
-pub returns-then-length-readings : goal.returns-then-length-readings
-returns-then-length-readings c =
+pub returns-then-from-readings : goal.returns-then-from-readings
+returns-then-from-readings c =
     let bytes = c.args.readings.now in
     let old = both_sides c.args.self.now in
-    let more : 512 < length old.port + length (brought Three bytes).port = omega (arith, ports bytes, c.length.ensures, c.args.self.now.even, c.if-length-readings.true) in
+    let more : 512 < length old.port + length (brought Three bytes).port = omega (arith, ports bytes, c.length.ensures, c.args.self.now.even, c.if-from-readings.true) in
     let t = refused old (brought Three bytes) (sym c.if-not-accepts_codes.ensures) more in
     record { result = t.0; holds = t.1 }
 
@@ -21,7 +21,7 @@ add-requires c =
     let left = c.loop-reading.left.now in
     let rest = c.in-Some.rest.now in
     let n = c.in-Some.ensures in
-    let room : length old.port + length (brought Three bytes).port ≤ 512 = omega (arith, ports bytes, c.length.ensures, c.args.self.now.even, c.if-length-readings.false) in
+    let room : length old.port + length (brought Three bytes).port ≤ 512 = omega (arith, ports bytes, c.length.ensures, c.args.self.now.even, c.if-from-readings.false) in
     ((codes_tell left c.in-Some.reading rest n.0 c.loop-reading.invariant.1).0, room_both (both_sides c.loop-reading.self) old (brought Three bytes) left rest c.in-Some.reading c.loop-reading.invariant.0 n.0 room)
 
 pub loop-reading-preserved : goal.loop-reading-preserved
@@ -40,7 +40,7 @@ returns c =
     let bytes = c.args.readings.now in
     let old = both_sides c.args.self.now in
     let s = both_sides c.loop-reading.self in
-    let room : length old.port + length (brought Three bytes).port ≤ 512 = omega (arith, ports bytes, c.length.ensures, c.args.self.now.even, c.if-length-readings.false) in
+    let room : length old.port + length (brought Three bytes).port ≤ 512 = omega (arith, ports bytes, c.length.ensures, c.args.self.now.even, c.if-from-readings.false) in
     let is : s ≡ together old (brought Three bytes) = sym (last_both s c.loop-reading.left.now c.in_default.ensures) ∙ c.loop-reading.invariant.0 in
     let held : length s.port ≡ length old.port + length (brought Three bytes).port = ap (λ (t : Sides). length t.port) is ∙ length-append old.port (brought Three bytes).port in
     let count : c.length-2.result ≡ length old.port + length (brought Three bytes).port = omega (arith, held, c.length-2.ensures, c.loop-reading.self.even) in

@@ -11,11 +11,11 @@ use Rattle.kinds.specs.Held.{port_alone}
 use Rattle.kinds.proofs.Frames.{halves, refused, all_taken, none_refused, room_left, next_port}
 use Rattle.kinds.proofs.one_side.SquaresFrameReadings.take.Goals as goal
 
-pub returns-then-length-readings : goal.returns-then-length-readings
-returns-then-length-readings c =
+pub returns-then-from-readings : goal.returns-then-from-readings
+returns-then-from-readings c =
     let bytes = c.args.readings.now in
     let old = port_alone c.args.self.now in
-    let more : 512 < length old.port + length (readings_in bytes) = omega (arith, halves bytes, c.length.ensures, c.if-length-readings.true) in
+    let more : 512 < length old.port + length (readings_in bytes) = omega (arith, halves bytes, c.length.ensures, c.if-from-readings.true) in
     let t = refused old (brought Two bytes) refl more in
     record { result = t.0; holds = t.1 }
 
@@ -27,10 +27,10 @@ returns-in_err-push c =
     let x = c.in-Some.reading in
     let ys = readings_in c.in-Some.rest.now in
     let fits : SFits w16 x = search rules in
-    let wide : SFits w32 c.from.result = search rules in
-    let same : to_z w32 (of_z w32 c.from.result) ≡ x = to_z-of_z w32 c.from.result wide ∙ c.from.ensures ∙ to_z-of_z w16 x fits in
+    let wide : SFits w32 c.from-in-Some.result = search rules in
+    let same : to_z w32 (of_z w32 c.from-in-Some.result) ≡ x = to_z-of_z w32 c.from-in-Some.result wide ∙ c.from-in-Some.ensures ∙ to_z-of_z w16 x fits in
     let h = c.in_err-push.ensures.result ∙ ap (taken-one lowest 65535 xs) same in
-    let room : length was + length (readings_in bytes) ≤ 512 = omega (arith, halves bytes, c.length.ensures, c.if-length-readings.false) in
+    let room : length was + length (readings_in bytes) ≤ 512 = omega (arith, halves bytes, c.length.ensures, c.if-from-readings.false) in
     let one = ap (λ (zs : List ℤ). xs ++ zs) (sym c.in-Some.ensures.0) ∙ c.loop-reading.invariant in
     absurd (none_refused xs x c.in_err-push.field-0.0 fits (room_left xs ys was (readings_in bytes) x one room) h)
 
@@ -41,10 +41,10 @@ loop-reading-preserved c =
     let xs = squares_readings c.loop-reading.self in
     let x = c.in-Some.reading in
     let fits : SFits w16 x = search rules in
-    let wide : SFits w32 c.from.result = search rules in
-    let same : to_z w32 (of_z w32 c.from.result) ≡ x = to_z-of_z w32 c.from.result wide ∙ c.from.ensures ∙ to_z-of_z w16 x fits in
+    let wide : SFits w32 c.from-in-Some.result = search rules in
+    let same : to_z w32 (of_z w32 c.from-in-Some.result) ≡ x = to_z-of_z w32 c.from-in-Some.result wide ∙ c.from-in-Some.ensures ∙ to_z-of_z w16 x fits in
     let h = c.push.ensures.holds ∙ ap (after_one lowest 65535 xs) same in
-    let room : length was + length (readings_in bytes) ≤ 512 = omega (arith, halves bytes, c.length.ensures, c.if-length-readings.false) in
+    let room : length was + length (readings_in bytes) ≤ 512 = omega (arith, halves bytes, c.length.ensures, c.if-from-readings.false) in
     next_port xs (readings_in c.loop-reading.left.now) (readings_in c.in-Some.rest.now) was (readings_in bytes) (squares_readings c.push.new.self) x fits c.loop-reading.invariant c.in-Some.ensures.0 room h
 
 pub returns : goal.returns
@@ -52,7 +52,7 @@ returns c =
     let bytes = c.args.readings.now in
     let old = port_alone c.args.self.now in
     let xs = squares_readings c.loop-reading.self in
-    let room : length old.port + length (readings_in bytes) ≤ 512 = omega (arith, halves bytes, c.length.ensures, c.if-length-readings.false) in
+    let room : length old.port + length (readings_in bytes) ≤ 512 = omega (arith, halves bytes, c.length.ensures, c.if-from-readings.false) in
     let is : xs ≡ old.port ++ readings_in bytes = sym (append-nil xs) ∙ ap (λ (zs : List ℤ). xs ++ zs) (sym c.in_default.ensures) ∙ c.loop-reading.invariant in
     let count : c.length-2.result ≡ length old.port + length (readings_in bytes) = c.length-2.ensures ∙ ap length is ∙ length-append old.port (readings_in bytes) in
     let t = all_taken old (brought Two bytes) c.length-2.result refl room count in
