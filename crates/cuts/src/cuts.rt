@@ -37,7 +37,8 @@ fn set_boundaries(boundaries: &mut List<u16>, trace: &[u16], from: usize, end: u
     let _ = boundaries.replace(&trace[from..end]);
 }
 
-// The allowed division of the least loss and penalties, in the trace.
+// The allowed division of the least loss and penalties, in the trace. By penalty and by count have a tally and a search each; what they
+// share is `Found`.
 fn best_by_penalty<L: Loss>(
     loss: &L,
     constraints: &Constraints<'_>,

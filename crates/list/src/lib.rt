@@ -8,7 +8,8 @@ ghost use Rattle.std.specs.List.{slice_get};
 
 use fault::Fault;
 
-// The first `len` places of `items` are the entries; what stands past them is not looked at.
+// The first `len` places of `items` are the entries; what stands past them is not looked at. The length stands beside the slice, since
+// the slice is the caller's, who keeps it where there is no heap.
 #[derive(Drop)]
 pub struct List<'a, T> {
     items: &'a mut [T],

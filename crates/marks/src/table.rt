@@ -9,6 +9,7 @@ mod find;
 mod part;
 
 // The first `len` places hold the marks that stand, in rising order; no two of them share a gap.
+// An array with its length, and no `ArrayVec`: callers may copy a table, and an `ArrayVec` is not `Copy`.
 #[derive(Clone, Copy)]
 pub struct MarkTable {
     marks: [Mark; 64],

@@ -2,10 +2,8 @@
 ghost use Rattle.path.specs.Cuts.{PathNamesTheCut, StepsNameEveryCut, NoCountNoCut};
 
 // At every penalty the path has the count and the loss of the division that wins there, and it has none exactly where none is allowed.
-pub fn path_names_every_cut() -> u8
+pub fn path_names_every_cut()
     ensures at { PathNamesTheCut }
     ensures steps { StepsNameEveryCut }
     ensures none { NoCountNoCut }
-{
-    0
-}
+{}

@@ -1,4 +1,5 @@
-// One call of a line in either state.
+// One call of a line in either state. Marks, lists and buffers are lent one by one: a struct of them would hold references, and each clause
+// would have to say besides that it still holds the same ones.
 ghost use Rattle.std.specs.Prelude.{◌≡◌, min, length};
 ghost use Rattle.list.specs.Entries.{places};
 ghost use Rattle.marks.specs.Table.{marks_of};

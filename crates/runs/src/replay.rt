@@ -84,6 +84,7 @@ pub fn replay_watched<L: Loss, W: Watch>(
         numbers: numbers.len(),
         trace: trace.len(),
     };
+    // i says how many calls are made: the watcher is told just those.
     for i in 0..calls.len() {
         watcher.look(loss, &calls[..i], replies, &line, boundaries, steps, lent);
         let (next, reply) = perform(

@@ -12,6 +12,7 @@ pub fn read_back(trace: &mut [u16], last_row: usize, width: usize, n: u16) -> us
     ensures place { result ≤ last_row + n + 1 }
     ensures boundaries { (ds : List ℕ) → Falling n ds → Traced (row_before width) (start_at trace.old) last_row n ds → part result (last_row + n + 1) trace.new ≡ boundaries_of ds [] }
 {
+    // Each start tells the place of the one before it: there is no sequence to iterate over.
     let mut from = last_row + n as usize + 1;
     let mut row = last_row;
     let mut start = trace[last_row + n as usize];

@@ -50,6 +50,7 @@ impl Tally for ByLoss {
         if x == u64::MAX { None } else { Some(x) }
     }
 
+    // The trait's clauses are written again: the check cannot yet give them to this method.
     fn put(&self, rows: &mut [u64], i: usize, v: Option<u64>)
         requires { (1 * (i + 1) ≤ length rows.old) × (IfSome v (λ x. x ≤ 2 ^ 40 * 512)) }
         ensures here { loss_held rows.new i ≡ v }

@@ -71,6 +71,7 @@ impl Tally for ByPenalty {
         }
     }
 
+    // The trait's clauses are written again: the check cannot yet give them to this method.
     fn put(&self, rows: &mut [u64], i: usize, v: Option<(u64, u64)>)
         requires { (2 * (i + 1) ≤ length rows.old) × (IfSome v (λ p. (p.0 ≤ 2 ^ 40 * 512 + 2 ^ 49 * p.1) × (p.1 ≤ 512 - 1))) }
         ensures here { pair_held rows.new i ≡ v }

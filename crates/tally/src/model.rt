@@ -1,4 +1,5 @@
-// A tally: what the stretches so far come to, how two of them compare, and how a row of numbers holds them.
+// A tally: what the stretches so far come to, how two of them compare, and how a row of numbers holds them. A row is made of plain numbers
+// that the caller lends, so that the largest number, and no `Option`, says that there is no entry.
 ghost use Rattle.std.specs.Prelude.{◌≡◌, ℕ, ◌+◌, ◌-◌, ◌*◌, ◌^◌, ◌<◌, ◌≤◌, Bool, true, List, length, IfSome, Option, ◌≢◌};
 ghost use Rattle.tally.specs.Order.{Order};
 
