@@ -7,7 +7,7 @@ use division::mark::Mark;
 use fault::Fault;
 use hexadecimal::line::{MOST_BYTES, read_line};
 
-#[derive(Clone, Copy)]
+#[derive(Clone, Copy, PartialEq, Eq, Debug)]
 pub enum Frame<'a> {
     // 10: readings, as bytes
     Readings(&'a [u8]),
@@ -62,5 +62,5 @@ pub fn from_line<'a>(
     ensures { asked_by result ≡ line_frame size line.now }
 {
     let n = read_line(line, buffer)?;
-    from_bytes(size, &buffer[0..n])
+    from_bytes(size, &buffer[..n])
 }

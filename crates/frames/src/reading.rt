@@ -9,12 +9,14 @@ pub struct PairReading {
     pub code: u8,
 }
 
+// The reading of two bytes.
 pub fn reading(high: u8, low: u8) -> i16
     ensures { result ≡ reading_of high low }
 {
     i16::from_be_bytes([high, low])
 }
 
+// No trait for readings of two and of three bytes: its two impls and its law would be longer than these two functions.
 // The first reading of two bytes, and the bytes behind it.
 pub fn next_reading(bytes: &[u8]) -> Option<(i16, &[u8])>
     ensures { MatchOption result (readings_in bytes.now ≡ []) (λ p. (readings_in bytes.now ≡ p.0 ∷ readings_in p.1.now) × (2 + length p.1.now ≡ length bytes.now)) }

@@ -23,55 +23,16 @@ fn readings<'a>(
     }
 }
 
-// The kind of a frame that has no more bytes.
-fn kind_alone(line: &[u8]) -> u8 {
-    match from_line(ReadingSize::Two, line, &mut [0; MOST_BYTES]) {
-        Ok(Frame::Open) => 0x11,
-        Ok(Frame::Path) => 0x32,
-        Ok(Frame::Reopen) => 0x40,
-        _ => 0,
-    }
-}
-
-fn mark_in(line: &[u8]) -> Option<Mark> {
-    match from_line(ReadingSize::Two, line, &mut [0; MOST_BYTES]) {
-        Ok(Frame::Mark(mark)) => Some(mark),
-        _ => None,
-    }
-}
-
-// The number of a frame that has one, with its kind.
-fn number_in(line: &[u8]) -> (u8, u64) {
-    match from_line(ReadingSize::Two, line, &mut [0; MOST_BYTES]) {
-        Ok(Frame::Unmark(first)) => (0x21, u64::from(first)),
-        Ok(Frame::Shortest(m)) => (0x22, u64::from(m)),
-        Ok(Frame::CutByPenalty(penalty)) => (0x30, penalty),
-        Ok(Frame::CutByCount(count)) => (0x31, u64::from(count)),
-        _ => (0, 0),
-    }
+// The line asks that.
+fn asks(rt: &impl Abort, line: &[u8], frame: Frame<'_>) {
+    assert_eq!(rt;
+        from_line(ReadingSize::Two, line, &mut [0; MOST_BYTES]),
+        Ok(frame)
+    );
 }
 
 fn refusal_of(size: ReadingSize, line: &[u8]) -> Option<Fault> {
-    match from_line(size, line, &mut [0; MOST_BYTES]) {
-        Ok(_) => None,
-        Err(fault) => Some(fault),
-    }
-}
-
-// The reply of a kind that has one number, or 40.
-fn numbered(kind: u8, n: u16) -> Reply<'static> {
-    match kind {
-        0x10 => Reply::Readings(n),
-        0x11 => Reply::Open(n),
-        0x20 => Reply::Mark(n),
-        0x21 => Reply::Unmark(n),
-        0x22 => Reply::Shortest(n),
-        _ => Reply::Reopen,
-    }
-}
-
-fn is_same(a: &[u8], b: &[u8]) -> bool {
-    a == b
+    from_line(size, line, &mut [0; MOST_BYTES]).err()
 }
 
 fn is_printed(rt: &impl Abort, heap: Global, reply: &Reply<'_>, text: &[u8]) -> Result<(), Fail> {
@@ -86,7 +47,7 @@ fn readings_are_read(rt: HostRuntime) -> Result<(), Fail> {
     let mut buffer: [u8; MOST_BYTES] = [0; MOST_BYTES];
     let line = b"10000300030008000900040004";
     let bytes = readings(ReadingSize::Two, line, &mut buffer).ok_or("no readings")?;
-    assert!(rt; is_same(bytes, &[0, 3, 0, 3, 0, 8, 0, 9, 0, 4, 0, 4]));
+    assert_eq!(rt; bytes, [0, 3, 0, 3, 0, 8, 0, 9, 0, 4, 0, 4].as_slice());
     let (first, _) = next_reading(bytes).ok_or("no first")?;
     assert_eq!(rt; first, 3);
     Ok(())
@@ -120,19 +81,19 @@ fn pairs_are_read(rt: HostRuntime) -> Result<(), Fail> {
 
 #[test]
 fn frames_are_read(rt: HostRuntime) {
-    assert_eq!(rt; kind_alone(b"11"), 0x11);
-    assert_eq!(rt; kind_alone(b"32"), 0x32);
-    assert_eq!(rt; kind_alone(b"40"), 0x40);
+    asks(&rt, b"11", Frame::Open);
+    asks(&rt, b"32", Frame::Path);
+    asks(&rt, b"40", Frame::Reopen);
     let mark = Mark {
         first: 1,
         last: 3,
         boundaries: 1,
     };
-    assert_eq!(rt; mark_in(b"200001000301"), Some(mark));
-    assert_eq!(rt; number_in(b"210001"), (0x21, 1));
-    assert_eq!(rt; number_in(b"220102"), (0x22, 258));
-    assert_eq!(rt; number_in(b"300000000000000014"), (0x30, 20));
-    assert_eq!(rt; number_in(b"310003"), (0x31, 3));
+    asks(&rt, b"200001000301", Frame::Mark(mark));
+    asks(&rt, b"210001", Frame::Unmark(1));
+    asks(&rt, b"220102", Frame::Shortest(258));
+    asks(&rt, b"300000000000000014", Frame::CutByPenalty(20));
+    asks(&rt, b"310003", Frame::CutByCount(3));
 }
 
 #[test]
@@ -163,12 +124,12 @@ fn unknown_frames_are_refused(rt: HostRuntime) {
 #[test]
 fn replies_are_printed(rt: HostRuntime) -> Result<(), Fail> {
     let heap = rt.alloc();
-    is_printed(&rt, heap, &numbered(0x10, 6), b"100006")?;
-    is_printed(&rt, heap, &numbered(0x11, 6), b"110006")?;
-    is_printed(&rt, heap, &numbered(0x20, 1), b"200001")?;
-    is_printed(&rt, heap, &numbered(0x21, 0), b"210000")?;
-    is_printed(&rt, heap, &numbered(0x22, 258), b"220102")?;
-    is_printed(&rt, heap, &numbered(0x40, 0), b"40")
+    is_printed(&rt, heap, &Reply::Readings(6), b"100006")?;
+    is_printed(&rt, heap, &Reply::Open(6), b"110006")?;
+    is_printed(&rt, heap, &Reply::Mark(1), b"200001")?;
+    is_printed(&rt, heap, &Reply::Unmark(0), b"210000")?;
+    is_printed(&rt, heap, &Reply::Shortest(258), b"220102")?;
+    is_printed(&rt, heap, &Reply::Reopen, b"40")
 }
 
 #[test]

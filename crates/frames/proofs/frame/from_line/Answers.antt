@@ -1,5 +1,4 @@
 use Rattle.std.proofs.Common.{◌≤◌, sym, ap, ◌∙◌, arith, rules}
-use native.Mathlib.Nat.{sub-zero}
 use Rattle.std.proofs.lemmas.Result.{err_from_is_err_and}
 use Rattle.hexadecimal.specs.Line.{line_bytes}
 use Rattle.frames.specs.Asked.{frame_of}
@@ -11,8 +10,8 @@ returns-in_err-n c =
     let p = err_from_is_err_and c.from_residual.result c.from_residual.ensures.1 in
     rw (p.1, p.2) (refused c.args.size (line_bytes c.args.line.now) _ c.in_err-n.ensures.value)
 
-pub slice_bounds-from_bytes-end : goal.slice_bounds-from_bytes-end
-slice_bounds-from_bytes-end c =
+pub shared_ref_as_front-from_bytes : goal.shared_ref_as_front-from_bytes
+shared_ref_as_front-from_bytes c =
     let e = c.in_ok-n.ensures in
     let front = at_front (line_bytes c.args.line.now) c.args.buffer.now c.read_line.new.bytes c.in_ok-n.n e.value e.after in
     let h : c.in_ok-n.n ≤ 65 = omega arith in
@@ -22,4 +21,4 @@ pub returns : goal.returns
 returns c =
     let e = c.in_ok-n.ensures in
     let front = at_front (line_bytes c.args.line.now) c.args.buffer.now c.read_line.new.bytes c.in_ok-n.n e.value e.after in
-    simp sub-zero at c.from_bytes.ensures ∙ sym (ap (frame_of c.args.size) front.bytes)
+    c.from_bytes.ensures ∙ sym (ap (frame_of c.args.size) front.bytes)
