@@ -26,10 +26,7 @@ const STANDING: Mark = Mark {
 fn refused<L: Loss>(rt: &impl Abort, loss: &L, cause: Fault) -> Result<(), Fail> {
     let mut marks = MarkTable::new();
     lay_in(&mut marks, 4, STANDING)?;
-    match Marking::open(loss, &mut marks) {
-        Ok(_) => return Err(Fail::new("opened")),
-        Err(fault) => assert_eq!(rt; fault, cause),
-    }
+    assert_eq!(rt; Marking::open(loss, &mut marks).err(), Some(cause));
     assert_eq!(rt; marks.get(0), Some(STANDING));
     Ok(())
 }

@@ -7,7 +7,6 @@ use loss::model::Loss;
 use marks::table::MarkTable;
 use runs::model::{Answer, Call, Lent, Line, Reply};
 use runs::replay::{Watch, replay_watched};
-use std::fmt::Debug;
 use std::process::Abort;
 use std::test::Fail;
 
@@ -30,10 +29,10 @@ impl Watch for Counting {
         &mut self,
         _loss: &L,
         calls: &[Call],
-        replies: &mut List<Reply>,
+        replies: &List<Reply>,
         line: &Line,
-        boundaries: &mut List<u16>,
-        _steps: &mut List<Step>,
+        boundaries: &List<u16>,
+        _steps: &List<Step>,
         _lent: Lent,
     ) {
         self.looks = self.looks.saturating_add(1);
@@ -45,14 +44,6 @@ impl Watch for Counting {
                 self.cut = self.cut.saturating_add(1);
             }
         }
-    }
-}
-
-// Does the list hold these entries?
-fn holds<T: Copy + PartialEq + Debug>(rt: &impl Abort, list: &mut List<T>, entries: &[T]) {
-    assert_eq!(rt; list.len(), entries.len());
-    for i in 0..entries.len() {
-        assert_eq!(rt; list.get(i), Some(entries[i]));
     }
 }
 
@@ -98,9 +89,9 @@ pub(crate) fn run(
         &mut numbers,
         &mut trace,
     )?;
-    holds(rt, &mut told, replies);
-    holds(rt, &mut gaps, boundaries);
-    holds(rt, &mut path, steps);
+    assert_eq!(rt; told.as_slice(), replies);
+    assert_eq!(rt; gaps.as_slice(), boundaries);
+    assert_eq!(rt; path.as_slice(), steps);
     assert_eq!(rt; watcher.looks, calls.len().saturating_add(1));
     assert_eq!(rt; watcher.told, watcher.looks);
     assert_eq!(rt; watcher.cut, cuts);
