@@ -1,16 +1,34 @@
 // Cuts of the line 3, 3, 8, 9, 4, 4 by squares, of one reading, of 512, and under marks of a longer line.
-use cuts::cuts::{cut_by_count, cut_by_penalty};
+use crate::samples::{LINE, gathered, line_of_equals, mark};
+use constraints::Constraints;
+use cuts::criterion::Criterion;
+use cuts::cuts::cut;
 use division::mark::Mark;
 use fault::Fault;
-use leaves::gather::gather;
-use leaves::model::Leaf;
 use leaves::squares::Squares;
 use list::List;
 use marks::lent::lay_in;
 use marks::table::MarkTable;
 use std::test::Fail;
 
-const LINE: [i32; 6] = [3, 3, 8, 9, 4, 4];
+fn cut_line(
+    constraints: &Constraints<'_>,
+    criterion: Criterion,
+    trace: &mut [u16],
+    places: &mut [u16],
+) -> Result<u64, Fault> {
+    let loss = gathered(Squares::new(), &LINE)?;
+    let mut numbers: [u64; 21] = [0; 21];
+    let mut list = List::over(places);
+    cut(
+        &loss,
+        constraints,
+        criterion,
+        &mut numbers,
+        trace,
+        &mut list,
+    )
+}
 
 fn by_penalty(
     marks: &MarkTable,
@@ -18,53 +36,32 @@ fn by_penalty(
     penalty: u64,
     places: &mut [u16],
 ) -> Result<u64, Fault> {
-    let mut loss = Squares::new();
-    gather(&mut loss, &LINE)?;
-    let mut numbers: [u64; 21] = [0; 21];
-    let mut trace: [u16; 7] = [0; 7];
-    let mut list = List::over(places);
-    cut_by_penalty(
-        &loss,
-        6,
-        marks,
+    let constraints = Constraints {
+        n: 6,
         shortest,
-        penalty,
-        &mut numbers,
-        &mut trace,
-        &mut list,
+        marks,
+    };
+    cut_line(
+        &constraints,
+        Criterion::Penalty(penalty),
+        &mut [0; 7],
+        places,
     )
 }
 
 fn by_count(n: u16, shortest: u16, count: u16, places: &mut [u16]) -> Result<u64, Fault> {
-    let mut loss = Squares::new();
-    gather(&mut loss, &LINE)?;
-    let marks = MarkTable::new();
-    let mut numbers: [u64; 21] = [0; 21];
-    let mut trace: [u16; 42] = [0; 42];
-    let mut list = List::over(places);
-    cut_by_count(
-        &loss,
+    let constraints = Constraints {
         n,
-        &marks,
         shortest,
-        count,
-        &mut numbers,
-        &mut trace,
-        &mut list,
-    )
+        marks: &MarkTable::new(),
+    };
+    cut_line(&constraints, Criterion::Count(count), &mut [0; 42], places)
 }
 
-fn with_mark(n: u16, first: u16, last: u16, boundaries: u8) -> Result<MarkTable, Fault> {
+// The mark alone, on a line of n readings.
+fn with_mark(n: u16, mark: Mark) -> Result<MarkTable, Fault> {
     let mut marks = MarkTable::new();
-    lay_in(
-        &mut marks,
-        n,
-        Mark {
-            first,
-            last,
-            boundaries,
-        },
-    )?;
+    lay_in(&mut marks, n, mark)?;
     Ok(marks)
 }
 
@@ -72,16 +69,19 @@ fn with_mark(n: u16, first: u16, last: u16, boundaries: u8) -> Result<MarkTable,
 fn penalties(rt: HostRuntime) {
     let none = MarkTable::new();
     let mut places: [u16; 5] = [0; 5];
-    assert_eq!(rt; by_penalty(&none, 1, 17, &mut places), Ok(35));
-    assert_eq!(rt; places, [0, 0, 0, 0, 0]);
-    assert_eq!(rt; by_penalty(&none, 1, 16, &mut places), Ok(33));
-    assert_eq!(rt; places, [2, 4, 0, 0, 0]);
-    assert_eq!(rt; by_penalty(&none, 1, 1, &mut places), Ok(3));
-    assert_eq!(rt; places, [2, 4, 0, 0, 0]);
-    assert_eq!(rt; by_penalty(&none, 1, 0, &mut places), Ok(0));
-    assert_eq!(rt; places, [2, 3, 4, 0, 0]);
-    assert_eq!(rt; by_penalty(&none, 3, 0, &mut places), Ok(34));
-    assert_eq!(rt; places, [3, 3, 4, 0, 0]);
+    for (shortest, penalty, total, gaps) in [
+        (1, 17, 35, [0, 0, 0, 0, 0]),
+        (1, 16, 33, [2, 4, 0, 0, 0]),
+        (1, 1, 3, [2, 4, 0, 0, 0]),
+        (1, 0, 0, [2, 3, 4, 0, 0]),
+        (3, 0, 34, [3, 3, 4, 0, 0]),
+    ] {
+        assert_eq!(rt;
+            by_penalty(&none, shortest, penalty, &mut places),
+            Ok(total)
+        );
+        assert_eq!(rt; places, gaps);
+    }
     assert_eq!(rt;
         by_penalty(&none, 1, (1 << 49) + 1, &mut places),
         Err(Fault::BadPenalty)
@@ -92,12 +92,12 @@ fn penalties(rt: HostRuntime) {
 fn marks_hold(rt: HostRuntime) -> Result<(), Fail> {
     let mut places: [u16; 5] = [0; 5];
     assert_eq!(rt;
-        by_penalty(&with_mark(6, 2, 4, 0)?, 1, 5, &mut places),
+        by_penalty(&with_mark(6, mark(2, 4, 0))?, 1, 5, &mut places),
         Ok(31)
     );
     assert_eq!(rt; places, [1, 4, 0, 0, 0]);
     assert_eq!(rt;
-        by_penalty(&with_mark(6, 1, 3, 1)?, 3, 0, &mut places),
+        by_penalty(&with_mark(6, mark(1, 3, 1))?, 3, 0, &mut places),
         Err(Fault::NoAllowedDivision)
     );
     assert_eq!(rt; places, [1, 4, 0, 0, 0]);
@@ -108,12 +108,12 @@ fn marks_hold(rt: HostRuntime) -> Result<(), Fail> {
 fn marks_of_a_longer_line(rt: HostRuntime) -> Result<(), Fail> {
     let mut places: [u16; 5] = [0; 5];
     assert_eq!(rt;
-        by_penalty(&with_mark(9, 5, 9, 1)?, 1, 17, &mut places),
+        by_penalty(&with_mark(9, mark(5, 9, 1))?, 1, 17, &mut places),
         Ok(48)
     );
     assert_eq!(rt; places, [2, 5, 0, 0, 0]);
     assert_eq!(rt;
-        by_penalty(&with_mark(9, 7, 9, 1)?, 1, 0, &mut places),
+        by_penalty(&with_mark(9, mark(7, 9, 1))?, 1, 0, &mut places),
         Err(Fault::NoAllowedDivision)
     );
     Ok(())
@@ -139,39 +139,36 @@ fn counts(rt: HostRuntime) {
 
 #[test]
 fn equal_readings(rt: HostRuntime) -> Result<(), Fail> {
-    let mut loss = Squares::new();
-    for _ in 0..512 {
-        loss.push(-7)?;
-    }
-    let marks = MarkTable::new();
+    let loss = line_of_equals(-7)?;
+    let constraints = Constraints {
+        n: 512,
+        shortest: 1,
+        marks: &MarkTable::new(),
+    };
     let mut numbers: [u64; 1539] = [0; 1539];
     let mut trace: [u16; 1026] = [0; 1026];
     let mut places: [u16; 511] = [0; 511];
     let mut list = List::over(&mut places);
     assert_eq!(rt;
-        cut_by_count(
+        cut(
             &loss,
-            512,
-            &marks,
-            1,
-            1,
+            &constraints,
+            Criterion::Count(1),
             &mut numbers,
             &mut trace,
-            &mut list,
+            &mut list
         ),
         Ok(0)
     );
     assert_eq!(rt; list.get(0), Some(511));
     assert_eq!(rt;
-        cut_by_penalty(
+        cut(
             &loss,
-            512,
-            &marks,
-            1,
-            0,
+            &constraints,
+            Criterion::Penalty(0),
             &mut numbers,
             &mut trace,
-            &mut list,
+            &mut list
         ),
         Ok(0)
     );

@@ -1,4 +1,5 @@
 // Layers over losses of readings.
+use crate::samples::{LINE, gathered};
 use fault::Fault;
 use layers::pair::Pair;
 use layers::weighted::Weighted;
@@ -8,14 +9,10 @@ use leaves::votes::Votes;
 use loss::model::{HEAVIEST, Loss};
 use std::test::Fail;
 
-const LINE_A: [i32; 6] = [3, 3, 8, 9, 4, 4];
-
 #[test]
 fn squares_and_votes_weighted(rt: HostRuntime) -> Result<(), Fail> {
-    let mut port = Squares::new();
-    let mut codes = Votes::new();
-    gather(&mut port, &LINE_A)?;
-    gather(&mut codes, &LINE_A)?;
+    let port = gathered(Squares::new(), &LINE)?;
+    let mut codes = gathered(Votes::new(), &LINE)?;
     gather(&mut codes, &[15, 15])?;
     let starboard = Weighted {
         weight: 100,
@@ -32,8 +29,7 @@ fn squares_and_votes_weighted(rt: HostRuntime) -> Result<(), Fail> {
 
 #[test]
 fn weights_at_the_limit(rt: HostRuntime) -> Result<(), Fail> {
-    let mut squares = Squares::new();
-    gather(&mut squares, &LINE_A)?;
+    let squares = gathered(Squares::new(), &LINE)?;
     let heaviest = Weighted {
         weight: 256,
         below: &squares,

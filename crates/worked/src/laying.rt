@@ -1,17 +1,9 @@
 // Marks that meet, marks that share a gap, a full table, and a mark lifted from the middle.
-use division::mark::Mark;
+use crate::samples::mark;
 use fault::Fault;
 use marks::lent::{lay_in, lift_in};
 use marks::table::MarkTable;
 use std::test::Fail;
-
-fn mark(first: u16, last: u16, boundaries: u8) -> Mark {
-    Mark {
-        first,
-        last,
-        boundaries,
-    }
-}
 
 #[test]
 fn marks_may_meet_at_a_reading(rt: HostRuntime) {

@@ -15,3 +15,5 @@ mod losses;
 mod marked;
 #[cfg(test)]
 mod paths;
+#[cfg(test)]
+mod samples;

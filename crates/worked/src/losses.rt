@@ -1,4 +1,5 @@
 // What the three losses take and answer on short lines of readings.
+use crate::samples::{LINE, gathered};
 use fault::Fault;
 use leaves::distances::Distances;
 use leaves::gather::gather;
@@ -8,30 +9,24 @@ use leaves::votes::Votes;
 use loss::model::Loss;
 use std::test::Fail;
 
-const LINE: [i32; 6] = [3, 3, 8, 9, 4, 4];
-
 #[test]
 fn by_squares(rt: HostRuntime) -> Result<(), Fail> {
-    let mut loss = Squares::new();
-    gather(&mut loss, &LINE)?;
+    let loss = gathered(Squares::new(), &LINE)?;
     assert_eq!(rt; loss.stretch(0, 6), Ok(35));
     assert_eq!(rt; loss.stretch(1, 3), Ok(13));
     assert_eq!(rt; loss.stretch(2, 4), Ok(1));
     assert_eq!(rt; loss.stretch(2, 2), Err(Fault::BadStretch));
     assert_eq!(rt; loss.stretch(0, 7), Err(Fault::BadStretch));
-    let mut below = Squares::new();
-    gather(&mut below, &[-3, -4, -4])?;
+    let below = gathered(Squares::new(), &[-3, -4, -4])?;
     assert_eq!(rt; below.stretch(0, 3), Ok(1));
     Ok(())
 }
 
 #[test]
 fn by_distances(rt: HostRuntime) -> Result<(), Fail> {
-    let mut loss = Distances::new();
-    gather(&mut loss, &LINE)?;
+    let loss = gathered(Distances::new(), &LINE)?;
     assert_eq!(rt; loss.stretch(0, 6), Ok(11));
-    let mut ends = Distances::new();
-    gather(&mut ends, &[-32768, 32767])?;
+    let mut ends = gathered(Distances::new(), &[-32768, 32767])?;
     assert_eq!(rt; ends.stretch(0, 2), Ok(65535));
     assert_eq!(rt; ends.push(32768), Err(Fault::ReadingOutOfRange));
     assert_eq!(rt; ends.push(-32769), Err(Fault::ReadingOutOfRange));

@@ -1,36 +1,33 @@
 // Paths of lines of 512 readings by squares.
+use crate::samples::{line_of_equals, step};
+use constraints::Constraints;
 use envelope::Step;
 use leaves::model::Leaf;
 use leaves::squares::Squares;
 use list::List;
 use marks::table::MarkTable;
 use path::path::path;
+use std::process::Abort;
 use std::test::Fail;
 
-fn step(penalty: u64, count: u16, loss: u64) -> Step {
-    Step {
-        penalty,
-        count,
-        loss,
-    }
+// The path of the 512 readings, with no mark, has these steps.
+fn has_steps(rt: &impl Abort, loss: &Squares, steps: &[Step]) {
+    let constraints = Constraints {
+        n: 512,
+        shortest: 1,
+        marks: &MarkTable::new(),
+    };
+    let mut numbers: [u64; 1539] = [0; 1539];
+    let mut places = [step(0, 0, 0); 512];
+    let mut list = List::over(&mut places);
+    assert_eq!(rt; path(loss, &constraints, &mut numbers, &mut list), Ok(()));
+    assert_eq!(rt; list.as_slice(), steps);
 }
 
 // Equal readings lose nothing however they are divided, so that no boundary is best at every penalty.
 #[test]
 fn equal_readings(rt: HostRuntime) -> Result<(), Fail> {
-    let mut loss = Squares::new();
-    for _ in 0..512 {
-        loss.push(1000)?;
-    }
-    let mut numbers: [u64; 1539] = [0; 1539];
-    let mut places = [step(0, 0, 0); 512];
-    let mut list = List::over(&mut places);
-    assert_eq!(rt;
-        path(&loss, 512, &MarkTable::new(), 1, &mut numbers, &mut list),
-        Ok(())
-    );
-    assert_eq!(rt; list.len(), 1);
-    assert_eq!(rt; list.get(0), Some(step(0, 0, 0)));
+    has_steps(&rt, &line_of_equals(1000)?, &[step(0, 0, 0)]);
     Ok(())
 }
 
@@ -45,15 +42,6 @@ fn alternating_readings(rt: HostRuntime) -> Result<(), Fail> {
         loss.push(0)?;
         loss.push(2)?;
     }
-    let mut numbers: [u64; 1539] = [0; 1539];
-    let mut places = [step(0, 0, 0); 512];
-    let mut list = List::over(&mut places);
-    assert_eq!(rt;
-        path(&loss, 512, &MarkTable::new(), 1, &mut numbers, &mut list),
-        Ok(())
-    );
-    assert_eq!(rt; list.len(), 2);
-    assert_eq!(rt; list.get(0), Some(step(0, 511, 0)));
-    assert_eq!(rt; list.get(1), Some(step(2, 0, 512)));
+    has_steps(&rt, &loss, &[step(0, 511, 0), step(2, 0, 512)]);
     Ok(())
 }
