@@ -1,11 +1,13 @@
--- The last place where two divisions of one length differ decides which is the later.
-use Rattle.std.proofs.Common.{◌≡◌, ℕ, Bool, true, false, cond, not, ◌&&◌, ◌||◌, eqb, ltb, List, [], ◌∷◌, ◌++◌, length, reverse, Some, None, Option, refl, ap, arith}
+-- Which of two divisions is the later: their lengths decide, and where these are the same, the last place where they differ.
+use Rattle.std.proofs.Common.{◌≡◌, ℕ, ◌<◌, ◌⊎◌, inl, inr, Bool, true, false, cond, not, ◌&&◌, ◌||◌, eqb, ltb, List, [], ◌∷◌, ◌++◌, length, reverse, Some, None, Option, refl, ap, arith}
 use Rattle.std.specs.List.{find, zip}
 use Rattle.std.proofs.lemmas.List.{reverse-append, length-reverse}
 use Rattle.std.proofs.lemmas.List.Folds.{find-append}
-use Rattle.std.proofs.lemmas.Bool.Decides.{nat_tests}
+use Rattle.std.proofs.lemmas.Bool.Decides.{nat_tests, same_from_decides, Decides-ltb, Decides-like}
 use Rattle.std.specs.Option.{option_or}
-use Rattle.division.specs.Order.{same, later}
+use Rattle.division.specs.Order.{same, later, LaterWhereTheyLastDiffer}
+use Rattle.division.proofs.Order.{later_in_words}
+use Rattle.division.proofs.Tested.{decides_later}
 
 abbrev differ : ℕ × ℕ → Bool
 differ p = not (eqb p.0 p.1)
@@ -61,3 +63,14 @@ decided (x ∷ xs) (y ∷ ys) h =
 
 pub later_by_last_difference : (d e : List ℕ) → length d ≡ length e → greater (found d e) ≡ later d e
 later_by_last_difference d e h = (decided d e h).0
+
+-- of two lists of different lengths, the shorter comes first
+pub later_by_length : (d e : List ℕ) → (length d ≡ length e → ⊥) → ltb (length d) (length e) ≡ later d e
+later_by_length d e apart =
+    same_from_decides (ltb (length d) (length e)) (later d e)
+    (Decides-like (ltb (length d) (length e)) (λ h. (later_in_words d e).1 (inl h)) (λ h. back ((later_in_words d e).0 h)) (Decides-ltb (length d) (length e)))
+    (decides_later d e)
+  where
+    back : (length d < length e) ⊎ ((length d ≡ length e) × LaterWhereTheyLastDiffer d e) → length d < length e
+    back (inl h) = h
+    back (inr h) = absurd (apart h.0)

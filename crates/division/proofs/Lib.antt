@@ -1,7 +1,6 @@
-mod LastDifference
 pub mod Best
 pub mod ByStretch
+mod LastDifference
 pub mod Listed
 pub mod Order
 pub mod Tested
-pub mod Walked

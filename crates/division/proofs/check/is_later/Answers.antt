@@ -1,6 +1,5 @@
 use Rattle.std.proofs.Common.{◌≡◌, ◌∙◌, rules}
-use Rattle.division.proofs.LastDifference.{greater, later_by_last_difference}
-use Rattle.division.proofs.Walked.{later_by_length}
+use Rattle.division.proofs.LastDifference.{greater, later_by_length, later_by_last_difference}
 use Rattle.division.proofs.check.is_later.Goals as goal
 
 pub returns-then-d-e : goal.returns-then-d-e
