@@ -44,7 +44,7 @@ fn alone(command: Command, text: &[u8]) -> Result<Command, Fault>
 }
 
 // The first word, and what stands behind it.
-fn first(text: &[u8]) -> Result<(&[u8], &[u8]), Fault>
+fn first_word(text: &[u8]) -> Result<(&[u8], &[u8]), Fault>
     ensures { MatchResult result (λ p. words text.now ≡ p.0.now ∷ words p.1.now) (λ e. (words text.now ≡ []) × (e ≡ UnknownFrame)) }
 {
     next_word(text).ok_or(Fault::UnknownFrame)
@@ -54,7 +54,7 @@ fn first(text: &[u8]) -> Result<(&[u8], &[u8]), Fault>
 fn one(text: &[u8]) -> Result<&[u8], Fault>
     ensures { MatchResult result (λ w. one (words text.now) ≡ Ok w.now) (λ e. one (words text.now) ≡ Err e) }
 {
-    let (word, rest) = first(text)?;
+    let (word, rest) = first_word(text)?;
     match next_word(rest) {
         None => Ok(word),
         Some(_) => Err(Fault::UnknownFrame),
@@ -72,10 +72,10 @@ fn only<T: Field>(text: &[u8]) -> Result<T, Fault>
 fn three(text: &[u8]) -> Result<(&[u8], &[u8], &[u8]), Fault>
     ensures { MatchResult result (λ t. three (words text.now) ≡ Ok (t.0.now, t.1.now, t.2.now)) (λ e. three (words text.now) ≡ Err e) }
 {
-    let (first_word, rest) = first(text)?;
-    let (second, rest) = first(rest)?;
+    let (first, rest) = first_word(text)?;
+    let (second, rest) = first_word(rest)?;
     let third = one(rest)?;
-    Ok((first_word, second, third))
+    Ok((first, second, third))
 }
 
 // squares | distances | votes
@@ -94,7 +94,8 @@ fn loss_kind(name: &[u8]) -> Result<LossKind, Fault>
 fn readings(heap: Global, text: &[u8]) -> Result<Command, Failure>
     ensures { Answers said (to_readings (words text.now)) result }
 {
-    first(text)?;
+    // at least one
+    first_word(text)?;
     Ok(Command::Readings(fields(heap, text)?))
 }
 
@@ -103,13 +104,10 @@ fn mark(text: &[u8]) -> Result<Mark, Fault>
     ensures { Says mark (to_mark (words text.now)) result }
 {
     let (first, last, boundaries) = three(text)?;
-    let first = field(first)?;
-    let last = field(last)?;
-    let boundaries = field(boundaries)?;
     Ok(Mark {
-        first,
-        last,
-        boundaries,
+        first: field(first)?,
+        last: field(last)?,
+        boundaries: field(boundaries)?,
     })
 }
 
@@ -128,7 +126,7 @@ fn behind_at(text: &[u8]) -> Result<&[u8], Fault>
 fn price(heap: Global, text: &[u8]) -> Result<Command, Failure>
     ensures { Answers said (to_price (words text.now)) result }
 {
-    let (penalty, rest) = first(text)?;
+    let (penalty, rest) = first_word(text)?;
     let gaps = behind_at(rest)?;
     let penalty = field(penalty)?;
     let gaps = fields(heap, gaps)?;
@@ -139,7 +137,7 @@ fn price(heap: Global, text: &[u8]) -> Result<Command, Failure>
 fn best(text: &[u8]) -> Result<Command, Fault>
     ensures { Says said (to_best (words text.now)) result }
 {
-    let (word, rest) = first(text)?;
+    let (word, rest) = first_word(text)?;
     if next_word(rest).is_none() {
         return Ok(Command::BestByPenalty(field(word)?));
     }

@@ -19,7 +19,7 @@ pub fn natural(word: &[u8]) -> Option<u64>
     if word.is_empty() {
         return None;
     }
-    // A loop: `try_fold` says too little of where it stops.
+    // A loop: in a `try_fold` the early end at a byte that is no digit would hide in the closure.
     let mut n: u64 = 0;
     for b in word {
         n = n.saturating_mul(10).saturating_add(u64::from(digit(*b)?));

@@ -8,6 +8,7 @@ ghost use Rattle.leaves.specs.Soundness.{squares_few};
 
 use crate::model::FrameReadings;
 use crate::pair_readings::PairReadings;
+use crate::room::check_room;
 use fault::Fault;
 use frames::reading::{PairReading, next_pair};
 use frames::size::ReadingSize;
@@ -16,7 +17,6 @@ use layers::weighted::Weighted;
 use leaves::model::Leaf;
 use leaves::squares::Squares;
 use leaves::votes::Votes;
-use loss::limits::MOST_READINGS;
 use loss::model::Loss;
 
 // What a code of starboard weighs.
@@ -101,9 +101,7 @@ impl FrameReadings for PairReadings {
         if !accepts_codes(readings) {
             return Err(Fault::ReadingOutOfRange);
         }
-        if usize::from(self.length()) + readings.len() / 3 > usize::from(MOST_READINGS) {
-            return Err(Fault::TooManyReadings);
-        }
+        check_room(self.length(), readings.len() / 3)?;
         let mut left = readings;
         while let Some((reading, rest)) = next_pair(left) {
             self.add(reading)?;

@@ -5,4 +5,5 @@ pub mod both_sides;
 pub mod model;
 pub mod one_side;
 pub mod pair_readings;
+mod room;
 pub mod theorems;

@@ -7,12 +7,12 @@ ghost use Rattle.std.proofs.Common.{rules};
 ghost use Rattle.leaves.specs.Soundness.{squares_few};
 
 use crate::model::FrameReadings;
+use crate::room::check_room;
 use fault::Fault;
 use frames::reading::next_reading;
 use frames::size::ReadingSize;
 use leaves::model::Leaf;
 use leaves::squares::Squares;
-use loss::limits::MOST_READINGS;
 use loss::model::Loss;
 
 impl FrameReadings for Squares {
@@ -39,9 +39,7 @@ impl FrameReadings for Squares {
     }
 
     fn take(&mut self, readings: &[u8]) -> Result<u16, Fault> {
-        if usize::from(self.length()) + readings.len() / 2 > usize::from(MOST_READINGS) {
-            return Err(Fault::TooManyReadings);
-        }
+        check_room(self.length(), readings.len() / 2)?;
         let mut left = readings;
         while let Some((reading, rest)) = next_reading(left) {
             self.push(i32::from(reading))?;
