@@ -7,20 +7,15 @@ use Rattle.search.proofs.Picking.{fits_of}
 use Rattle.search.proofs.Tracing.{leads, found_some, one_row}
 use Rattle.search.proofs.Search.best_of_all.Goals as goal
 
-pub read_back-from-requires : goal.read_back-from-requires
-read_back-from-requires g c =
+pub read_back-from-requires-clause-leads : goal.read_back-from-requires-clause-leads
+read_back-from-requires-clause-leads g c =
     let m = g.T.Tally in
     let s : Tallying g.row.T-Value.Denot = tallying m.zero m.added m.below c.args.self.now.tally.now (g.L.Loss.table c.args.self.now.loss.now).loss in
     let n : ℕ = c.args.self.now.n in
     let trace : List ℕ = c.fill_row.new.trace in
-    let starts = leads s (any_number (permitted c.args.self.now.constraints)) g.met.T.Tally.order (λ a b x y. g.met.T.Tally.strict c.args.self.now.tally.now x y a ((g.L.Loss.table c.args.self.now.loss.now).loss a b))
+    leads s (any_number (permitted c.args.self.now.constraints)) g.met.T.Tally.order (λ a b x y. g.met.T.Tally.strict c.args.self.now.tally.now x y a ((g.L.Loss.table c.args.self.now.loss.now).loss a b))
     (m.fits n) tt n (λ ds. Traced (λ (x : Unit {0}). x) (λ _ x. get_or trace x 0) tt n ds) (λ ds. Traced (row_before 0) (start_at trace) 0 n ds) (λ ds _ h. one_row trace 0 n ds refl h)
-    (m.held c.fill_row.new.rows n) (c.in_ok-fill_row.ensures.0 n (omega arith)) c.in-Some.v c.in-Some.ensures in
-    record {
-      size = (c.requires.some, c.args.self.now.size, omega arith);
-      room = omega (arith, c.requires.trace, c.fill_row.auto.trace);
-      leads = starts;
-    }
+    (m.held c.fill_row.new.rows n) (c.in_ok-fill_row.ensures.0 n (omega arith)) c.in-Some.v c.in-Some.ensures
 
 pub returns-in-Some : goal.returns-in-Some
 returns-in-Some g c =

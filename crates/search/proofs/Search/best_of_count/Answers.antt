@@ -1,4 +1,4 @@
-use Rattle.std.proofs.Common.{◌≡◌, ℕ, ◌+◌, ◌-◌, ◌*◌, ◌<◌, ◌≤◌, List, sym, refl, ap, ◌∙◌, add-mul, mul-le-mul, mul-le-mul_left, one-mul, arith}
+use Rattle.std.proofs.Common.{◌≡◌, ℕ, ◌+◌, ◌-◌, ◌*◌, ◌<◌, ◌≤◌, List, sym, refl, ap, ◌∙◌, add-mul, mul-le-mul_left, one-mul, arith}
 use Rattle.tally.specs.Order.{Tallying, tallying}
 use Rattle.search.specs.Starts.{exactly}
 use Rattle.search.specs.Rows.{Traced, kept_start, start_at, row_before, part}
@@ -19,22 +19,17 @@ last_line s w pos =
     let d : (s - 1 + 1) * w ≡ (s - 1) * w + w = add-mul (s - 1) 1 w ∙ ap (λ (x : ℕ). (s - 1) * w + x) (one-mul w) in
     sym d ∙ ap (λ (x : ℕ). x * w) e
 
-pub read_back-from-requires : goal.read_back-from-requires
-read_back-from-requires g c =
+pub read_back-from-requires-clause-leads : goal.read_back-from-requires-clause-leads
+read_back-from-requires-clause-leads g c =
     let m = g.T.Tally in
     let s : Tallying g.row.T-Value.Denot = tallying m.zero m.added m.below c.args.self.now.tally.now (g.L.Loss.table c.args.self.now.loss.now).loss in
     let n : ℕ = c.args.self.now.n in
     let k : ℕ = c.args.stretches in
     let trace : List ℕ = c.fill_rows.new.trace in
-    let big : (k - 1) * (n + 1) ≤ 512 * 513 = (let few : k - 1 ≤ 512 = omega (arith, c.requires.count.1) in let short : n + 1 ≤ 513 = omega (arith, c.args.self.now.size) in mul-le-mul few short) in
     let can : ℕ → ℕ → Type 0 = permitted c.args.self.now.constraints in
-    record {
-      size = (c.requires.some, c.args.self.now.size, omega (arith, big));
-      room = omega (arith, c.requires.trace, c.fill_rows.auto.trace, last_line k (n + 1) c.requires.count.0);
-      leads = leads s (exactly can) g.met.T.Tally.order (λ a b x y. g.met.T.Tally.strict c.args.self.now.tally.now x y a ((g.L.Loss.table c.args.self.now.loss.now).loss a b))
+    leads s (exactly can) g.met.T.Tally.order (λ a b x y. g.met.T.Tally.strict c.args.self.now.tally.now x y a ((g.L.Loss.table c.args.self.now.loss.now).loss a b))
           (m.fits n) k n (λ ds. Traced (λ (s : ℕ). s - 1) (kept_start trace (n + 1)) k n ds) (λ ds. Traced (row_before (n + 1)) (start_at trace) ((k - 1) * (n + 1)) n ds) (λ ds starts h. by_rows can trace (n + 1) k ((k - 1) * (n + 1)) n ds refl starts h)
-          (m.held c.fill_rows.new.rows (c.in_ok-base.base + n)) (c.in_ok-base.ensures.1 n (omega arith)) c.in-Some.v c.in-Some.ensures;
-    }
+          (m.held c.fill_rows.new.rows (c.in_ok-base.base + n)) (c.in_ok-base.ensures.1 n (omega arith)) c.in-Some.v c.in-Some.ensures
 
 pub returns-in-Some : goal.returns-in-Some
 returns-in-Some g c =

@@ -1,22 +1,16 @@
-use Rattle.std.proofs.Common.{◌≡◌, ℕ, ◌+◌, ◌-◌, ◌*◌, ◌^◌, ◌<◌, ◌≤◌, IfSome, Some, Option, sym, ap, ◌∙◌, subst, mul-le-mul_left, arith}
+use Rattle.std.proofs.Common.{◌≡◌, ℕ, ◌+◌, ◌-◌, ◌*◌, ◌^◌, ◌<◌, ◌≤◌, IfSome, Some, Option, sym, ap, ◌∙◌, subst, arith}
 use Rattle.loss.specs.Table.{Table}
 use Rattle.search.specs.Usable.{Usable}
 use Rattle.tally.specs.Order.{Tallying, tallying}
 use Rattle.search.specs.Rows.{Picked, smaller}
 use Rattle.constraints.specs.Ranges.{permitted}
 use Rattle.search.proofs.Picking.{skips, takes, widens, fits_of, smaller_fits}
-use Rattle.search.proofs.Stretch.{lost_ok, lost_err, lost_little}
+use Rattle.search.proofs.Stretch.{lost_ok, lost_little}
 use Rattle.search.proofs.Search.best_start.Goals as goal
 use Rattle.search.proofs.Search.best_start.Goals.{in-Some+in_ok-lost, in_default}
 
 usable_below : (table : Table) (n end : ℕ) → end ≤ n → Usable table n → Usable table end
 usable_below table n end within u = record { light = u.light; long = omega (arith, u.long) }
-
-pub load-requires : goal.load-requires
-load-requires g c =
-    let lt : c.loop-start.start < c.args.end = omega (arith, c.starts_before-range.ensures.within.1, c.loop-start-test.true) in
-    let le : (c.args.base + c.loop-start.start) + 1 ≤ c.args.base + c.args.end = omega arith in
-    omega (arith, mul-le-mul_left g.T.Tally.stride le, c.requires.room)
 
 pub add-requires : goal.add-requires
 add-requires g c =
@@ -32,13 +26,6 @@ add-requires g c =
           (fits_of (m.fits a) _ c.in-Some.before c.in-Some.ensures (c.requires.small a lt)),
       omega (arith, c.args.self.now.size),
     )
-
-pub returns-in_err-lost : goal.returns-in_err-lost
-returns-in_err-lost g c =
-    let table : Table = g.L.Loss.table c.args.self.now.loss.now in
-    let usable : Usable table c.args.end = usable_below table c.args.self.now.n c.args.end c.requires.within c.args.self.now.usable in
-    let lt : c.loop-start.start < c.args.end = omega (arith, c.starts_before-range.ensures.within.1, c.loop-start-test.true) in
-    absurd (lost_err table c.loop-start.start c.args.end c.in_err-lost.field-0.0 usable lt (sym c.in_err-lost.was ∙ c.stretch.ensures))
 
 pub loop-start-init : goal.loop-start-init
 loop-start-init g c = ((λ b lt ok w e. omega (arith, ((c.starts_before-range.ensures.exact b).1 ok).0)), tt)

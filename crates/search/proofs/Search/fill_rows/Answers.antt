@@ -1,4 +1,4 @@
-use Rattle.std.proofs.Common.{◌≡◌, ℕ, ◌+◌, ◌-◌, ◌*◌, ◌<◌, ◌≤◌, length, get_or, Some, None, Option, refl, ap, ◌∙◌, subst, inl, mul-le-mul_right, add-mul, mul-le-mul, mul-le-mul_left, one-mul, zero-add, arith}
+use Rattle.std.proofs.Common.{◌≡◌, ℕ, ◌+◌, ◌-◌, ◌*◌, ◌<◌, ◌≤◌, length, get_or, Some, None, Option, refl, ap, ◌∙◌, subst, inl, mul-le-mul_right, add-mul, one-mul, zero-add, arith}
 use Rattle.tally.specs.Order.{Tallying, tallying}
 use Rattle.search.specs.Starts.{exactly}
 use Rattle.search.specs.Rows.{Row, kept_start}
@@ -11,29 +11,6 @@ use Rattle.search.proofs.Search.fill_rows.Goals as goal
 -- one row of the trace more
 next_place : (s w : ℕ) → (s + 1) * w ≡ s * w + w
 next_place s w = add-mul s 1 w ∙ ap (λ x. s * w + x) (one-mul w)
-
-pub first_row-requires : goal.first_row-requires
-first_row-requires g c =
-    let le : c.args.self.now.n + 1 ≤ (c.args.self.now.n + 1) + (c.args.self.now.n + 1) = omega arith in
-    omega (arith, mul-le-mul_left g.T.Tally.stride le, c.requires.room)
-
-pub next_row-requires : goal.next_row-requires
-next_row-requires g c =
-    let n : ℕ = c.args.self.now.n in
-    let s : ℕ = c.loop-s.s in
-    let src : ℕ = c.loop-s.src in
-    let dst : ℕ = c.loop-s.dst in
-    let big : s * (n + 1) ≤ 512 * 513 = (let few : s ≤ 512 = omega (arith, c.requires.count) in let short : n + 1 ≤ 513 = omega (arith, c.args.self.now.size) in mul-le-mul few short) in
-    let within : (x : ℕ) → x ≤ n + 1 → g.T.Tally.stride * (x + (n + 1)) ≤ length c.loop-s.rows =
-    λ x le. let k : x + (n + 1) ≤ (n + 1) + (n + 1) = omega arith in omega (arith, mul-le-mul_left g.T.Tally.stride k, c.requires.room, c.loop-s.auto.rows, c.first_row.auto.rows) in
-    let sides = apart n src dst c.loop-s.invariant.0 in
-    record {
-      near = (omega (arith, sides.0, c.args.self.now.size), omega (arith, sides.1, c.args.self.now.size), omega arith);
-      apart = sides.2;
-      source = within src sides.0;
-      target = within dst sides.1;
-      small = c.loop-s.invariant.2;
-    }
 
 pub loop-s-init : goal.loop-s-init
 loop-s-init g c =

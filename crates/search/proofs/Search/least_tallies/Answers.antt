@@ -1,47 +1,12 @@
-use Rattle.std.proofs.Common.{◌≡◌, ℕ, ◌+◌, ◌-◌, ◌*◌, ◌<◌, ◌≤◌, length, IfSome, Some, None, Option, sym, refl, ap, ◌∙◌, subst, inl, inr, mul-le-mul_left, zero-add, arith}
+use Rattle.std.proofs.Common.{◌≡◌, ℕ, ◌+◌, ◌-◌, ◌*◌, ◌<◌, IfSome, Some, None, Option, sym, refl, ap, ◌∙◌, subst, inl, inr, zero-add, arith}
 use native.Mathlib.Decide.{dec_lt}
 use Rattle.tally.specs.Order.{Tallying, tallying}
 use Rattle.constraints.specs.Ranges.{permitted}
 use Rattle.search.specs.Starts.{exactly}
 use Rattle.search.specs.Rows.{Traced, Least}
 use Rattle.search.proofs.Optimal.{weak}
-use Rattle.search.proofs.Filling.{exactly_first, forgotten, least_next, first_fits, fits_some, apart, swapped}
+use Rattle.search.proofs.Filling.{exactly_first, forgotten, least_next, first_fits, apart, swapped}
 use Rattle.search.proofs.Search.least_tallies.Goals as goal
-
-pub first_row-requires : goal.first_row-requires
-first_row-requires g c =
-    let le : c.args.self.now.n + 1 ≤ 3 * (c.args.self.now.n + 1) = omega arith in
-    omega (arith, mul-le-mul_left g.T.Tally.stride le, c.requires)
-
-pub next_row-requires : goal.next_row-requires
-next_row-requires g c =
-    let n : ℕ = c.args.self.now.n in
-    let within : (x : ℕ) → x ≤ n + 1 → g.T.Tally.stride * (x + (n + 1)) ≤ length c.loop-k.rows =
-    λ x le. let k : x + (n + 1) ≤ 3 * (n + 1) = omega arith in omega (arith, mul-le-mul_left g.T.Tally.stride k, c.requires, c.loop-k.auto.rows, c.first_row.auto.rows) in
-    let sides = apart n c.loop-k.src c.loop-k.dst c.loop-k.invariant.0 in
-    record {
-      near = (omega (arith, sides.0, c.args.self.now.size), omega (arith, sides.1, c.args.self.now.size), omega arith);
-      apart = sides.2;
-      source = within c.loop-k.src sides.0;
-      target = within c.loop-k.dst sides.1;
-      small = c.loop-k.invariant.2;
-    }
-
-pub load-least-requires : goal.load-least-requires
-load-least-requires g c =
-    let sides = apart c.args.self.now.n c.loop-k.src c.loop-k.dst c.loop-k.invariant.0 in
-    let le : (c.loop-k.dst + c.args.self.now.n) + 1 ≤ 3 * (c.args.self.now.n + 1) = omega (arith, sides.1) in
-    omega (arith, mul-le-mul_left g.T.Tally.stride le, c.requires, c.loop-k.auto.rows, c.first_row.auto.rows, c.next_row.auto.rows)
-
-pub put-requires : goal.put-requires
-put-requires g c =
-    let m = g.T.Tally in
-    let n : ℕ = c.args.self.now.n in
-    let le : 2 * (n + 1) + c.loop-k.k + 1 ≤ 3 * (n + 1) = omega (arith, c.loop-k-test.true) in (
-      omega (arith, mul-le-mul_left m.stride le, c.requires, c.loop-k.auto.rows, c.first_row.auto.rows, c.next_row.auto.rows),
-      subst (λ (o : Option g.row.T-Value.Denot). IfSome o (λ x. m.fits 512 x)) (sym c.load-least.ensures)
-          (fits_some (m.fits n) (m.fits 512) (λ x. g.met.T.Tally.wider n 512 x c.args.self.now.size) (m.held c.next_row.new.rows (c.loop-k.dst + n)) (c.in_ok-next_row.ensures.0.small n (omega arith))),
-    )
 
 pub loop-k-init : goal.loop-k-init
 loop-k-init g c =
@@ -91,6 +56,3 @@ loop-k-preserved g c =
             subst (λ (x : ℕ). Least s (exactly can) (x + 1) n (last (2 * (n + 1) + x))) (sym q) (subst (λ (o : Option V). Least s (exactly can) (k + 1) n o) (sym new) (filled n (omega arith))))
       ],
     )
-
-pub returns : goal.returns
-returns g c = λ k lt. c.loop-k.invariant.3 k (omega (arith, lt, c.loop-k-test.false))

@@ -1,35 +1,9 @@
-use Rattle.std.proofs.Common.{◌≡◌, ℕ, ◌+◌, ◌<◌, ◌≤◌, ◌⊎◌, List, length, get_or, set, IfSome, Option, sym, refl, ap, ◌∙◌, subst, inl, inr, mul-le-mul_left, arith, get_or-set_other, get_or-set_same}
+use Rattle.std.proofs.Common.{◌≡◌, ℕ, ◌+◌, ◌<◌, ◌⊎◌, List, length, get_or, set, Option, ap, ◌∙◌, inl, inr, arith, get_or-set_other, get_or-set_same}
 use Rattle.tally.specs.Order.{Tallying, tallying}
 use Rattle.search.specs.Rows.{start_of}
 use Rattle.constraints.specs.Ranges.{permitted}
-use Rattle.search.proofs.Filling.{entry_more, fits_wider}
+use Rattle.search.proofs.Filling.{entry_more}
 use Rattle.search.proofs.Search.next_row.Goals as goal
-
-pub best_start-requires : goal.best_start-requires
-best_start-requires g c =
-    let m = g.T.Tally in
-    let le : c.args.src + c.loop-end.end ≤ c.args.src + (c.args.self.now.n + 1) = omega arith in
-    record {
-      within = omega (arith, c.args.self.now.size);
-      near = omega (arith, c.requires.near.0);
-      room = omega (arith, mul-le-mul_left m.stride le, c.requires.source, c.loop-end.auto.rows);
-      small = λ a lt.
-          (let within : a < c.args.self.now.n + 1 = omega arith in
-          let out : (c.args.src + a < c.args.dst) ⊎ (c.args.dst + c.args.self.now.n < c.args.src + a) = elim c.requires.apart [ inl l ↦ inl (omega arith) | inr l ↦ inr (omega arith) ] in
-          subst (λ o. IfSome o (λ v. m.fits a v)) (sym (c.loop-end.invariant.2 (c.args.src + a) out)) (c.requires.small a within));
-    }
-
-pub write_entry-requires : goal.write_entry-requires
-write_entry-requires g c =
-    let m = g.T.Tally in
-    let le : (c.args.dst + c.loop-end.end) + 1 ≤ c.args.dst + (c.args.self.now.n + 1) = omega arith in
-    record {
-      room = omega (arith, mul-le-mul_left m.stride le, c.requires.target, c.loop-end.auto.rows);
-      small = fits_wider (m.fits c.loop-end.end) (m.fits 512) (λ x. g.met.T.Tally.wider c.loop-end.end 512 x (omega (arith, c.args.self.now.size))) c.in_ok-found.found c.in_ok-found.ensures.1;
-    }
-
-pub loop-end-init : goal.loop-end-init
-loop-end-init g c = (record { found = λ t lt. absurd (omega arith); small = λ t lt. absurd (omega arith) }, (λ k lt. refl), λ k out. refl)
 
 pub loop-end-preserved : goal.loop-end-preserved
 loop-end-preserved g c =
