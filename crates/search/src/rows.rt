@@ -82,6 +82,8 @@ impl<L: Loss, T: Tally> Search<'_, L, T> {
     }
 
     // Every entry of the row 0..=n, each from those before it; the trace keeps the last start of each.
+    // Apart, since LLVM leaves the inner loop scalar where it grows into a large caller.
+    #[inline(never)]
     pub fn fill_row(&self, rows: &mut [u64], trace: &mut [u16]) -> Result<(), Fault>
         requires room { T.stride * (self.now.n + 1) ≤ length rows.old }
         requires trace { self.now.n < length trace.old }
