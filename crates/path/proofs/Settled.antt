@@ -92,6 +92,3 @@ module _ (t : Table) (marks : Seq Mark) (m n : ℕ) (numbers numbers' : Seq ℕ)
         kept = d.2;
         untouched = λ e z. let o : ◌≡◌ {A = ℕ} 0 1 = cc in absurd (omega arith);
       }
-
-  pub lent : new.items.ghost_name ≡ old.items.ghost_name
-  lent = (done r cases).3

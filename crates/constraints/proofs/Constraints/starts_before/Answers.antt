@@ -4,9 +4,6 @@ use Rattle.marks.specs.Table.{marks_of}
 use Rattle.constraints.proofs.Marked.{all_more, all_marks}
 use Rattle.constraints.proofs.Constraints.starts_before.Goals as goal
 
-pub loop-mark-init : goal.loop-mark-init
-loop-mark-init c = (omega arith, λ a. (λ h. (omega arith, omega arith, tt), λ h. (omega arith, omega arith)))
-
 pub loop-mark-preserved : goal.loop-mark-preserved
 loop-mark-preserved c = (
   omega (arith, c.narrow-range.ensures.within, c.loop-mark.invariant.0),
@@ -19,22 +16,16 @@ loop-mark-preserved c = (
       ),
 )
 
-pub returns-then-range : goal.returns-then-range
-returns-then-range c =
+pub returns-then-range-clause-exact : goal.returns-then-range-clause-exact
+returns-then-range-clause-exact c =
     let s = c.args.self.now in
-    record {
-      exact = λ a.
-          (let all = all_marks (marks_of s.marks.now) c.as_slice-mark-items.result.now c.loop-mark.mark-index s.shortest s.n a c.args.end c.as_slice-mark-items.ensures c.loop-mark-test.false in
-          (λ h. all.0 ((c.loop-mark.invariant.1 a).0 h), λ h. (c.loop-mark.invariant.1 a).1 (all.1 h)));
-      within = (omega arith, c.loop-mark.invariant.0);
-    }
+    λ a.
+        (let all = all_marks (marks_of s.marks.now) c.as_slice-mark-items.result.now c.loop-mark.mark-index s.shortest s.n a c.args.end c.as_slice-mark-items.ensures c.loop-mark-test.false in
+        (λ h. all.0 ((c.loop-mark.invariant.1 a).0 h), λ h. (c.loop-mark.invariant.1 a).1 (all.1 h)))
 
-pub returns-else-range : goal.returns-else-range
-returns-else-range c =
+pub returns-else-range-clause-exact : goal.returns-else-range-clause-exact
+returns-else-range-clause-exact c =
     let s = c.args.self.now in
-    record {
-      exact = λ a.
-          (let all = all_marks (marks_of s.marks.now) c.as_slice-mark-items.result.now c.loop-mark.mark-index s.shortest s.n a c.args.end c.as_slice-mark-items.ensures c.loop-mark-test.false in
-          (λ h. absurd (omega arith), λ h. (let r = (c.loop-mark.invariant.1 a).1 (all.1 h) in absurd (omega (arith, r.0, r.1)))));
-      within = (omega arith, omega arith);
-    }
+    λ a.
+        (let all = all_marks (marks_of s.marks.now) c.as_slice-mark-items.result.now c.loop-mark.mark-index s.shortest s.n a c.args.end c.as_slice-mark-items.ensures c.loop-mark-test.false in
+        (λ h. absurd (omega arith), λ h. (let r = (c.loop-mark.invariant.1 a).1 (all.1 h) in absurd (omega (arith, r.0, r.1)))))
