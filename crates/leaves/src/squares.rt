@@ -13,10 +13,11 @@ struct Sums {
     squares: u64,
 }
 
-// The readings, and for each place the sums over those before it.
+// For each place the sums over the readings before it, and the readings. The sums stand first: behind the readings they lie across
+// cache lines, and a cut by count took a sixth longer.
 #[derive(Drop)]
 pub struct Squares {
-    held: Held<65535>,
     before: [Sums; 513],
+    held: Held<65535>,
     ghost adds: { Before held.distances.items before },
 }

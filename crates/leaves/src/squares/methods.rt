@@ -24,8 +24,8 @@ impl Squares {
             squares: 0,
         };
         Squares {
-            held: Held::new(),
             before: [none; 513],
+            held: Held::new(),
         }
     }
 }
