@@ -1,26 +1,11 @@
 -- Readings are read back from their bytes, and their bytes from them.
-use Rattle.std.proofs.Common.{◌≡◌, ℕ, ◌+◌, ◌-◌, ◌*◌, ◌/◌, ◌%◌, ◌^◌, ◌<◌, ◌≤◌, List, [], ◌∷◌, ◌++◌, length, get_or, take, drop, ℤ, pos, negsuc, refl, ap, ◌∙◌, arith, w16, to_z, of_z}
+use Rattle.std.proofs.Common.{◌≡◌, ℕ, ◌+◌, ◌*◌, ◌/◌, ◌%◌, ◌^◌, ◌<◌, List, [], ◌∷◌, ◌++◌, ℤ, pos, negsuc, refl, ap, ◌∙◌, arith, w16, to_z, of_z}
 use lib.Signed.{mag}
-use Rattle.std.proofs.lemmas.List.{take_rest}
 use Rattle.std.proofs.lemmas.Int.{to_z-of_z, of_z-to_z}
 use Rattle.std.specs.List.{flat_map}
 use Rattle.frames.specs.Readings.{reading_of, reading_bytes, readings_in, pair_bytes, pairs_in}
 use Rattle.frames.specs.Theorems.{ReadingsReadBack, ReadingsWrittenBack, PairsReadBack, PairsWrittenBack}
 use Rattle.frames.proofs.Numbers.{two_back, two_of}
-
--- the first reading, and those in the bytes behind it
-pub next_reading : (bytes : List ℕ) (x : ℤ) → 2 ≤ length bytes → x ≡ reading_of (get_or bytes 0 0) (get_or bytes 1 0) →
-    readings_in bytes ≡ x ∷ readings_in (take (length bytes - 2) (drop 2 bytes))
-next_reading [] x two e = absurd (omega arith)
-next_reading (a ∷ []) x two e = absurd (omega arith)
-next_reading (a ∷ b ∷ rest) x two e = rw (e, take_rest (a ∷ b ∷ rest) 2) refl
-
-pub next_pair : (bytes : List ℕ) (x : ℤ) → 3 ≤ length bytes → x ≡ reading_of (get_or bytes 0 0) (get_or bytes 1 0) →
-    pairs_in bytes ≡ (record { port = x; code = get_or bytes 2 0 }) ∷ pairs_in (take (length bytes - 3) (drop 3 bytes))
-next_pair [] x three e = absurd (omega arith)
-next_pair (a ∷ []) x three e = absurd (omega arith)
-next_pair (a ∷ b ∷ []) x three e = absurd (omega arith)
-next_pair (a ∷ b ∷ k ∷ rest) x three e = rw (e, take_rest (a ∷ b ∷ k ∷ rest) 3) refl
 
 bits_fit : (x : ℤ) → mag x < 2 ^ 15 → of_z w16 x < 2 ^ 16
 bits_fit (pos n) l = omega arith

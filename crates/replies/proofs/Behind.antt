@@ -1,15 +1,11 @@
 -- One part of a reply put behind another.
-use Rattle.std.proofs.Common.{◌≡◌, ℕ, List, [], ◌++◌, Ok, Err, Result, sym, refl, ◌∙◌, subst}
-use Rattle.std.proofs.lemmas.List.{append_assoc, append-nil}
+use Rattle.std.proofs.Common.{◌≡◌, ℕ, List, ◌++◌, Ok, Err, Result, sym, refl, ◌∙◌, subst}
+use Rattle.std.proofs.lemmas.List.{append_assoc}
 use Rattle.std.specs.declared.alloc.AllocError.{AllocError}
 use Rattle.hexadecimal.specs.Digits.{text_of}
 use Rattle.hexadecimal.proofs.Texts.{text_append}
 use Rattle.replies.specs.Answered.{Answered, reply_bytes}
 use Rattle.replies.specs.Put.{Put}
-
--- where memory is wanting at the first part, nothing was put
-pub put_none : (before after : List ℕ) → after ≡ before → (more : List ℕ) × (after ≡ before ++ more)
-put_none before after e = ([], e ∙ sym (append-nil before))
 
 -- where it is wanting behind a part
 pub put_some : (part before mid after : List ℕ) → mid ≡ before ++ part → (more : List ℕ) × (after ≡ mid ++ more) → (more : List ℕ) × (after ≡ before ++ more)

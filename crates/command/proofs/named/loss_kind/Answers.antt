@@ -9,3 +9,7 @@ returns-in-squares c =
 pub returns-in-distances : goal.returns-in-distances
 returns-in-distances c =
     let e : c.args.name.now ≡ codes "distances" = text_from_reads c.args.name.now (codes "distances") (omega arith) (search rules) in rw e refl
+
+pub returns-in-votes : goal.returns-in-votes
+returns-in-votes c =
+    let e : c.args.name.now ≡ codes "votes" = text_from_reads c.args.name.now (codes "votes") (omega arith) (search rules) in rw e refl

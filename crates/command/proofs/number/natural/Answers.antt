@@ -1,12 +1,7 @@
-use Rattle.std.proofs.Common.{◌≡◌, ◌+◌, ◌-◌, ◌*◌, ◌^◌, min, drop, sym, ap, ◌∙◌, arith}
+use Rattle.std.proofs.Common.{◌≡◌, ◌+◌, ◌-◌, ◌*◌, ◌^◌, min, drop, ap, ◌∙◌, arith}
 use Rattle.command.specs.Numbers.{decimal_after}
-use Rattle.command.proofs.Counted.{capped, digit_more, digit_none, digits_all}
+use Rattle.command.proofs.Counted.{capped, digit_more}
 use Rattle.command.proofs.number.natural.Goals as goal
-
-pub returns-in_err-digit : goal.returns-in_err-digit
-returns-in_err-digit c =
-    c.from_residual.ensures
-    ∙ sym (c.loop-b.invariant.0 ∙ ap (capped (2 ^ 64 - 1)) (digit_none c.args.word.now c.loop-b.b-index c.loop-b.n c.loop-b-test.true c.in_err-digit.ensures))
 
 pub loop-b-preserved : goal.loop-b-preserved
 loop-b-preserved c =
@@ -18,6 +13,3 @@ loop-b-preserved c =
           ∙ ap (λ n. capped (2 ^ 64 - 1) (decimal_after n after)) n-is,
       omega arith,
     )
-
-pub returns : goal.returns
-returns c = sym (c.loop-b.invariant.0 ∙ digits_all (2 ^ 64 - 1) c.args.word.now c.loop-b.b-index c.loop-b.n c.loop-b-test.false (omega (arith, c.loop-b.invariant.1)))

@@ -1,6 +1,4 @@
 use Rattle.std.proofs.Common.{[], ◌∷◌, ◌++◌, vec_items, ap, ◌∙◌, arith}
-use Rattle.std.proofs.lemmas.List.{take_all}
-use Rattle.hexadecimal.specs.Digits.{text_of}
 use Rattle.hexadecimal.proofs.Turns.{put_more}
 use Rattle.hexadecimal.proofs.text.put_text.Goals as goal
 
@@ -11,8 +9,3 @@ loop-b-preserved c = (
       (c.push_reserved-in-loop-b.ensures.items ∙ ap (λ xs. xs ++ c.digit_for-in-loop-b.result ∷ []) c.push_reserved.ensures.items),
   omega arith,
 )
-
-pub returns : goal.returns
-returns c =
-    c.loop-b.invariant.0 ∙ ap (λ xs. vec_items c.reserve.new.self ++ text_of xs) (take_all _ _ c.loop-b-test.false)
-    ∙ ap (λ xs. xs ++ text_of c.args.bytes.now) c.reserve.ensures.items

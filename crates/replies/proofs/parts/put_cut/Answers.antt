@@ -1,15 +1,9 @@
 use Rattle.std.proofs.Common.{◌∷◌, ◌++◌, length, vec_items, ap, ◌∙◌}
 use Rattle.std.specs.List.{flat_map}
-use Rattle.std.proofs.lemmas.Result.{err_from_is_err_and}
 use Rattle.hexadecimal.specs.Digits.{text_of}
 use Rattle.frames.specs.Numbers.{two_bytes, eight_bytes}
-use Rattle.replies.proofs.Behind.{put_none, put_then}
+use Rattle.replies.proofs.Behind.{put_then}
 use Rattle.replies.proofs.parts.put_cut.Goals as goal
-
-pub returns-in_err-put_text : goal.returns-in_err-put_text
-returns-in_err-put_text c =
-    let p = err_from_is_err_and c.from_residual.result c.from_residual.ensures.1 in
-    rw p.1 (put_none (vec_items c.args.out.now) (vec_items c.put_text.new.out) c.in_err-put_text.ensures)
 
 pub returns : goal.returns
 returns c =
