@@ -55,6 +55,8 @@ fn write_entry<T: Tally>(
 
 impl<L: Loss, T: Tally> Search<'_, L, T> {
     // Over the starts that can precede `end` and have an entry in the row at `base`: the least tally, and of equals the latest start.
+    // Apart: grown into a large caller, this loop took up to a quarter longer.
+    #[inline(never)]
     pub fn best_start(
         &self,
         rows: &[u64],
@@ -70,20 +72,19 @@ impl<L: Loss, T: Tally> Search<'_, L, T> {
             × IfSome o (λ p. T.fits end p.0))
             (λ e. ⊥) }
     {
+        let (loss, tally) = (self.loss, self.tally);
         let range = self.constraints.starts_before(end);
         let mut best = None;
         for start in range.first..range.past {
-            if let Some(before) = self.tally.load(rows, base + start as usize) {
-                let lost = self.loss.stretch(start, end)?;
-                best = pick(self.tally, best, self.tally.add(before, start, lost), start);
+            if let Some(before) = tally.load(rows, base + start as usize) {
+                let lost = loss.stretch(start, end)?;
+                best = pick(tally, best, tally.add(before, start, lost), start);
             }
         }
         Ok(best)
     }
 
     // Every entry of the row 0..=n, each from those before it; the trace keeps the last start of each.
-    // Apart, since LLVM leaves the inner loop scalar where it grows into a large caller.
-    #[inline(never)]
     pub fn fill_row(&self, rows: &mut [u64], trace: &mut [u16]) -> Result<(), Fault>
         requires room { T.stride * (self.now.n + 1) ≤ length rows.old }
         requires trace { self.now.n < length trace.old }

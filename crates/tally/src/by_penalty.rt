@@ -50,8 +50,9 @@ impl Tally for ByPenalty {
         (0, 0)
     }
 
+    // Written out: as a comparison of pairs, a cut by penalty took a tenth longer.
     fn less(&self, a: (u64, u64), b: (u64, u64)) -> bool {
-        a < b
+        a.0 < b.0 || a.0 == b.0 && a.1 < b.1
     }
 
     fn add(&self, v: (u64, u64), start: u16, loss: u64) -> (u64, u64) {

@@ -28,8 +28,8 @@ read_back-from-requires-clause-leads g c =
     let trace : List ℕ = c.fill_rows.new.trace in
     let can : ℕ → ℕ → Type 0 = permitted c.args.self.now.constraints in
     leads s (exactly can) g.met.T.Tally.order (λ a b x y. g.met.T.Tally.strict c.args.self.now.tally.now x y a ((g.L.Loss.table c.args.self.now.loss.now).loss a b))
-          (m.fits n) k n (λ ds. Traced (λ (s : ℕ). s - 1) (kept_start trace (n + 1)) k n ds) (λ ds. Traced (row_before (n + 1)) (start_at trace) ((k - 1) * (n + 1)) n ds) (λ ds starts h. by_rows can trace (n + 1) k ((k - 1) * (n + 1)) n ds refl starts h)
-          (m.held c.fill_rows.new.rows (c.in_ok-base.base + n)) (c.in_ok-base.ensures.1 n (omega arith)) c.in-Some.v c.in-Some.ensures
+    (m.fits n) k n (λ ds. Traced (λ (s : ℕ). s - 1) (kept_start trace (n + 1)) k n ds) (λ ds. Traced (row_before (n + 1)) (start_at trace) ((k - 1) * (n + 1)) n ds) (λ ds starts h. by_rows can trace (n + 1) k ((k - 1) * (n + 1)) n ds refl starts h)
+    (m.held c.fill_rows.new.rows (c.in_ok-base.base + n)) (c.in_ok-base.ensures.1 n (omega arith)) c.in-Some.v c.in-Some.ensures
 
 pub returns-in-Some : goal.returns-in-Some
 returns-in-Some g c =
