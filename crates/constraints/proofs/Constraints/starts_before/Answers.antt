@@ -20,12 +20,12 @@ pub returns-then-range-clause-exact : goal.returns-then-range-clause-exact
 returns-then-range-clause-exact c =
     let s = c.args.self.now in
     λ a.
-        (let all = all_marks (marks_of s.marks.now) c.as_slice-mark-items.result.now c.loop-mark.mark-index s.shortest s.n a c.args.end c.as_slice-mark-items.ensures c.loop-mark-test.false in
-        (λ h. all.0 ((c.loop-mark.invariant.1 a).0 h), λ h. (c.loop-mark.invariant.1 a).1 (all.1 h)))
+    (let all = all_marks (marks_of s.marks.now) c.as_slice-mark-items.result.now c.loop-mark.mark-index s.shortest s.n a c.args.end c.as_slice-mark-items.ensures c.loop-mark-test.false in
+    (λ h. all.0 ((c.loop-mark.invariant.1 a).0 h), λ h. (c.loop-mark.invariant.1 a).1 (all.1 h)))
 
 pub returns-else-range-clause-exact : goal.returns-else-range-clause-exact
 returns-else-range-clause-exact c =
     let s = c.args.self.now in
     λ a.
-        (let all = all_marks (marks_of s.marks.now) c.as_slice-mark-items.result.now c.loop-mark.mark-index s.shortest s.n a c.args.end c.as_slice-mark-items.ensures c.loop-mark-test.false in
-        (λ h. absurd (omega arith), λ h. (let r = (c.loop-mark.invariant.1 a).1 (all.1 h) in absurd (omega (arith, r.0, r.1)))))
+    (let all = all_marks (marks_of s.marks.now) c.as_slice-mark-items.result.now c.loop-mark.mark-index s.shortest s.n a c.args.end c.as_slice-mark-items.ensures c.loop-mark-test.false in
+    (λ h. absurd (omega arith), λ h. (let r = (c.loop-mark.invariant.1 a).1 (all.1 h) in absurd (omega (arith, r.0, r.1)))))
