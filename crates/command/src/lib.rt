@@ -33,7 +33,7 @@ pub enum Command {
     Shortest(u16),
     // price PENALTY, or price PENALTY at GAP GAP ..
     Price { penalty: u64, gaps: Vec<u16> },
-    // best PENALTY
+    // best PENALTY; two variants and no `Criterion`, which stands in a crate above
     BestByPenalty(u64),
     // best count COUNT
     BestByCount(u16),

@@ -79,6 +79,7 @@ fn three(text: &[u8]) -> Result<(&[u8], &[u8], &[u8]), Fault>
 }
 
 // squares | distances | votes
+// No TryFrom: the words are the command's, and any other is refused as its own.
 fn loss_kind(name: &[u8]) -> Result<LossKind, Fault>
     ensures { Says loss (loss_named name.now) result }
 {

@@ -48,7 +48,7 @@ impl Field for u16 {
     ghost means = { natural 16 };
 
     fn from_word(word: &[u8]) -> Option<u16> {
-        Some(natural(word)?.min(u64::from(u16::MAX)) as u16)
+        Some(u16::try_from(natural(word)?).unwrap_or(u16::MAX))
     }
 }
 
@@ -56,7 +56,7 @@ impl Field for u8 {
     ghost means = { natural 8 };
 
     fn from_word(word: &[u8]) -> Option<u8> {
-        Some(natural(word)?.min(u64::from(u8::MAX)) as u8)
+        Some(u8::try_from(natural(word)?).unwrap_or(u8::MAX))
     }
 }
 
@@ -66,8 +66,9 @@ impl Field for i32 {
 
     fn from_word(word: &[u8]) -> Option<i32> {
         match word {
+            // `as`, since `min` has made it fit
             [b'-', digits @ ..] => Some(-(natural(digits)?.min(1 << 31) as i64) as i32),
-            _ => Some(natural(word)?.min((1 << 31) - 1) as i32),
+            _ => Some(i32::try_from(natural(word)?).unwrap_or(i32::MAX)),
         }
     }
 }

@@ -34,6 +34,7 @@ fn set_boundaries(boundaries: &mut List<u16>, trace: &[u16], from: usize, end: u
     ensures places { places boundaries.new ≡ part from end trace.now ++ drop (length (part from end trace.now)) (places boundaries.old) }
     ensures lender { boundaries.new.items.ghost_name ≡ boundaries.old.items.ghost_name }
 {
+    // There is room.
     let _ = boundaries.replace(&trace[from..end]);
 }
 
@@ -66,6 +67,7 @@ fn best_by_penalty<L: Loss>(
         constraints: *constraints,
         n,
     };
+    // A match, and no `map`: each arm has a lemma of its own, that none is allowed or that this one wins.
     match search.best_of_all(numbers, trace)? {
         Some(((total, _), from)) => Ok(Some(Found {
             total,
@@ -104,6 +106,7 @@ fn best_by_count<L: Loss>(
         constraints: *constraints,
         n,
     };
+    // A match, as above.
     match search.best_of_count(count + 1, numbers, trace)? {
         Some((total, from)) => Ok(Some(Found {
             total,
@@ -154,11 +157,8 @@ pub fn cut<L: Loss>(
     ensures lender { boundaries.new.items.ghost_name ≡ boundaries.old.items.ghost_name }
 {
     let places = boundaries.capacity();
-    match best(loss, constraints, criterion, numbers, trace, places)? {
-        Some(Found { total, from, end }) => {
-            set_boundaries(boundaries, trace, from, end);
-            Ok(total)
-        }
-        None => Err(Fault::NoAllowedDivision),
-    }
+    let found = best(loss, constraints, criterion, numbers, trace, places)?;
+    let Found { total, from, end } = found.ok_or(Fault::NoAllowedDivision)?;
+    set_boundaries(boundaries, trace, from, end);
+    Ok(total)
 }

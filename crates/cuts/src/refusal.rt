@@ -33,6 +33,7 @@ fn check_room(n: u16, rows: u16, room: Room) -> Result<(), Fault>
     Ok(())
 }
 
+// By penalty and by count have a check each: they share two calls.
 pub(crate) fn check_by_penalty<L: Loss>(
     loss: &L,
     n: u16,

@@ -22,23 +22,22 @@ fn run(rt: &HostRuntime) -> anyhow::Result<()> {
     let mut chunk = [0u8; 4096];
     let mut front = LineFront::new(rt.alloc(), LONGEST + 1);
     let mut console = Console::new(rt.alloc())?;
-    let mut begun = false;
+    // a count, so that the loop is seen to end
     for _ in 0..u64::MAX {
         let n = input.read(&mut chunk)?;
         if n == 0 {
             break;
         }
         for byte in &chunk[0..n] {
-            begun = *byte != b'\n';
-            if begun {
-                front.put(*byte)?;
-            } else {
+            if *byte == b'\n' {
                 console.answer(rt, front.bytes())?;
                 front.clear();
+            } else {
+                front.put(*byte)?;
             }
         }
     }
-    if begun {
+    if !front.bytes().is_empty() {
         console.answer(rt, front.bytes())?;
     }
     Ok(())

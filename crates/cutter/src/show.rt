@@ -28,6 +28,7 @@ pub fn show_help(rt: &HostRuntime) -> io::Result<()> {
     Ok(())
 }
 
+// The words of this program: `leaves` prints nothing, and so has no Display.
 pub fn kind_name(kind: LossKind) -> &'static str {
     match kind {
         LossKind::Squares => "squares",

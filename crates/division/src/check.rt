@@ -49,7 +49,7 @@ pub fn is_allowed(marks: &[Mark], m: u16, n: u16, gaps: &[u16]) -> bool
     is_division(n, gaps) && is_long_enough(m, n, gaps) && obeys_every(marks, gaps)
 }
 
-// The last place where two lists of one length differ, with what each has there.
+// What each of two lists of one length has at the last place where they differ.
 fn last_difference(d: &[u16], e: &[u16]) -> Option<(u16, u16)>
     ensures { result ≡ find (λ p. not (p.0 == p.1)) (zip (reverse d.now) (reverse e.now)) }
 {

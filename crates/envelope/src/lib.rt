@@ -2,11 +2,11 @@
 // straight line over the penalty, loss + penalty * count, and the steps are the lower envelope of these lines.
 #![tactic(auto)]
 
-ghost use Rattle.std.specs.Prelude.{◌≡◌, ◌<◌, ◌≤◌, ◌⊎◌, length, Some, IfSome, MatchResult};
+ghost use Rattle.std.specs.Prelude.{◌≡◌, ◌<◌, ◌≤◌, length, Some, IfSome, MatchResult};
 ghost use Rattle.list.specs.Entries.{entries, places};
 ghost use Rattle.envelope.specs.Theorems.{PathNamesCheapest, OnePath, CountsFall, StepsBegin, OnlyCountsBelow};
 ghost use Rattle.envelope.specs.Path.{cost_of, better_count, present, path_at, path_steps, losses_in, largest_penalty};
-ghost use Rattle.envelope.specs.Next.{crossing, sooner, Overtaken, Next, FitLoss, Fit, Small, Added, Holding, answer};
+ghost use Rattle.envelope.specs.Next.{crossing, sooner, Overtaken, Next, Fit, Small, Added, Holding, answer};
 
 use fault::Fault;
 use list::List;
@@ -19,11 +19,11 @@ pub struct Step {
     pub loss: u64,
 }
 
-// Stands for the least loss of a count that no allowed division has.
+// Stands for the least loss of a count that no allowed division has: a row is a caller's plain numbers, so a number says so, and no `Option`.
 pub const ABSENT: u64 = u64::MAX;
 
 impl Step {
-    // What its boundaries cost at `penalty`.
+    // What it costs at `penalty`: its loss, and the penalty for each boundary.
     fn cost_at(self, penalty: u64) -> u64
         requires penalty { penalty ≤ largest_penalty }
         requires small { Small (Some self) }
@@ -42,6 +42,7 @@ impl Step {
     }
 }
 
+// The functions below take the row as it is lent: a struct of it would have to say in each clause that it lends the same one.
 // A loss as a caller's row holds it: none where it stands for an absent one.
 fn present_loss(loss: u64) -> Option<u64>
     ensures { result ≡ present loss }

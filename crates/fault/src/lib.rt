@@ -56,7 +56,7 @@ impl Fault {
         }
     }
 
-    // What a person reads.
+    // What a person reads. A text, and no Display: the contract says which.
     pub fn name(self) -> &'static str
         ensures { result.now ≡ fault_name self }
     {

@@ -11,7 +11,7 @@ pub const MOST_BYTES: usize = 65;
 
 pub const MOST_DIGITS: usize = 130;
 
-// So many bytes at the front of a line decide how it is read: a caller need not keep more (`theorems::front_suffices`).
+// So many bytes at the front of a line decide how it is read: a caller need not keep more (`theorems::front_suffices`); `inputs` keeps as many.
 pub const FRONT: usize = 131;
 
 // The value of a digit.

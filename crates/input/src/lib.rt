@@ -1,4 +1,5 @@
-// Lines out of bytes, in fixed memory: of a line of any length only the front is kept.
+// Lines out of bytes: of a line of any length only the front is kept, on the heap and as long as is asked. `inputs` keeps one of fixed length
+// in the value itself.
 #![tactic(auto)]
 
 ghost use Rattle.std.specs.Prelude.{◌≡◌, ◌≤◌, [], ◌∷◌, ◌++◌, take, vec_len, OnOk};

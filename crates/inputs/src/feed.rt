@@ -29,7 +29,7 @@ impl LineReader {
         self.lines == MOST_LINES
     }
 
-    // The line ends: it is answered.
+    // The line ends: it is answered. Answerer and text are lent at each part, so that the text may be taken away between parts.
     fn end_line<A: Answerer>(
         &mut self,
         answerer: &mut A,

@@ -26,9 +26,9 @@ pub trait FrameReadings: Loss {
     fn size() -> ReadingSize
         ensures { result ≡ bytes };
 
-    // Each kind writes its own loop: to share it takes a type, two methods and three laws more, for four lines.
     // Takes the readings of a frame behind the others, all or none, and answers how many are then held.
     // Refused where a code is out of range, then where more than 512 would be held: then nothing changes.
+    // Each kind writes its own loop: a shared one would take a type, two methods and three laws more, for four lines.
     fn take(&mut self, readings: &[u8]) -> Result<u16, Fault>
         ensures result { result ≡ taken (held self.old) (brought bytes readings.now) }
         ensures holds { held self.new ≡ after (held self.old) (brought bytes readings.now) };

@@ -26,7 +26,7 @@ impl<P: Loss, S: Loss> Loss for Pair<P, S> {
         both.min(HEAVIEST + 1)
     }
 
-    // In place in a search's inner loop, which is twice as slow around a call.
+    // Inlined: a search's inner loop is twice as slow around a call.
     #[inline(always)]
     fn stretch(&self, a: u16, b: u16) -> Result<u64, Fault> {
         if self.ceiling() > HEAVIEST {

@@ -1,5 +1,4 @@
 // Readings from -32768 to 32767. A stretch loses the least sum of squares of their distances from one whole level.
-ghost use Rattle.std.specs.Prelude.{◌≡◌, ◌≤◌, length};
 ghost use Rattle.leaves.specs.Kept.{Before};
 
 pub mod methods;
@@ -17,6 +16,7 @@ struct Sums {
 // cache lines, and a cut by count took a sixth longer.
 #[derive(Drop)]
 pub struct Squares {
+    // an array, and no `ArrayVec`: one place more than readings, and `held` has the length
     before: [Sums; 513],
     held: Held<65535>,
     ghost adds: { Before held.distances.items before },

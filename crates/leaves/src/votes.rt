@@ -9,6 +9,7 @@ use crate::held::Held;
 #[derive(Drop)]
 pub struct Votes {
     held: Held<15>,
+    // an array, and no `ArrayVec`: one row more than readings, and `held` has the length
     counts: [[u16; 16]; 513],
     ghost wide: { Wide counts },
     ghost tallied: { Counts held.distances.items counts },

@@ -1,4 +1,5 @@
-// A line in its two states. The mark table, the lists, the buffers and the loss are lent at each call.
+// A line in its two states. The mark table, the lists, the buffers and the loss are lent at each call, one by one: a struct of them would hold
+// references, and each clause would have to say besides that it still holds the same ones.
 #![tactic(auto)]
 
 pub use cuts::criterion::Criterion;
@@ -13,7 +14,8 @@ pub struct Marking {
     shortest: u16,
 }
 
-// A line that is cut: the division stands in the list of boundaries that was lent to the cut, and has this total.
+// A line that is cut: the division stands in the list of boundaries that was lent to the cut, and has this total. Its n and shortest are its
+// own, as contracts name them.
 #[derive(Drop)]
 pub struct Cut {
     n: u16,

@@ -22,6 +22,7 @@ use marks::lent::{lay_in, lift_in};
 use marks::table::MarkTable;
 use path::path::path;
 
+// Each takes the line by `&mut`: it is a call of the line, though some change only what is lent.
 impl Marking {
     // A fresh line over the loss: all its readings, no marks, and stretches of one reading or more.
     pub fn open<L: Loss>(loss: &L, marks: &mut MarkTable) -> Result<Marking, Fault>

@@ -9,7 +9,8 @@ ghost use Rattle.std.specs.List.{slice_get};
 use fault::Fault;
 
 // The first `len` places of `items` are the entries; what stands past them is not looked at. The length stands beside the slice, since
-// the slice is the caller's, who keeps it where there is no heap.
+// the slice is the caller's, who keeps it where there is no heap. The clause `lender` says that a list is still over the same slice: no type
+// says that of before and after.
 #[derive(Drop)]
 pub struct List<'a, T> {
     items: &'a mut [T],

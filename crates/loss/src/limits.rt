@@ -1,6 +1,6 @@
-// The limits that every layer above keeps.
+// The limits of lines and penalties.
 
-// The most readings that a line has.
+// The most readings that a line has, and so a loss.
 pub const MOST_READINGS: u16 = 512;
 
 // The largest penalty for a boundary.

@@ -25,15 +25,14 @@ use marks::table::MarkTable;
 fn standing(res: Result<usize, Fault>) -> Reply
     ensures { result ≡ answered Standing res }
 {
-    Ok(Answer::Standing(res?))
+    res.map(|standing| Answer::Standing(standing))
 }
 
 // The answer, unless the call was refused.
 fn replied(res: Result<(), Fault>, answer: Answer) -> Reply
     ensures { result ≡ answered (λ _. answer) res }
 {
-    res?;
-    Ok(answer)
+    res.map(|()| answer)
 }
 
 // The path, with no more numbers than are lent.

@@ -11,6 +11,10 @@ Picked {V} m can row limit t (Some (v, a)) =
     × ((b : ℕ) → b < limit → can b → (w : V) → row b ≡ Some w → m.below (m.step b t w) v ≡ false)
     × ((b : ℕ) → a < b → b < limit → can b → (w : V) → row b ≡ Some w → m.below v (m.step b t w) ≡ true)
 
+-- each entry below `limit`, where there is one, is what stretches to it can come to
+abbrev pub AllFit : {V : Type 0} → (ℕ → V → Type 0) → (ℕ → Option V) → ℕ → Type 0
+AllFit fits row limit = (a : ℕ) → a < limit → IfSome (row a) (λ v. fits a v)
+
 -- the smaller of the best so far and (v, a), which is later
 abbrev pub smaller : {V : Type 0} → (V → V → Bool) → Option (V × ℕ) → V → ℕ → Option (V × ℕ)
 smaller below None v a = Some (v, a)

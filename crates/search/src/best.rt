@@ -26,6 +26,7 @@ impl<L: Loss, T: Tally> Search<'_, L, T> {
             (λ e. ⊥) }
     {
         self.fill_row(rows, trace)?;
+        // A match, and no `map`: only where there is an entry may the trace be read back.
         match self.tally.load(rows, self.n as usize) {
             Some(v) => {
                 let from = read_back(trace, 0, 0, self.n);
@@ -52,6 +53,7 @@ impl<L: Loss, T: Tally> Search<'_, L, T> {
     {
         let base = self.fill_rows(stretches, rows, trace)?;
         let n = self.n;
+        // A match, as above.
         match self.tally.load(rows, base + n as usize) {
             Some(v) => {
                 let width = n as usize + 1;

@@ -15,7 +15,8 @@ use tally::by_loss::ByLoss;
 use tally::model::Tally;
 
 impl<L: Loss, T: Tally> Search<'_, L, T> {
-    // For each k below n: what the best k + 1 stretches from 0 to n tally, in entry 2 (n + 1) + k.
+    // For each k below n: what the best k + 1 stretches from 0 to n tally, in entry 2 (n + 1) + k. The rows take turns as in `fill_rows`, with
+    // no trace.
     pub fn least_tallies(&self, rows: &mut [u64]) -> Result<(), Fault>
         requires { T.stride * (3 * (self.now.n + 1)) ≤ length rows.old }
         ensures { MatchResult result

@@ -13,7 +13,9 @@ pub mod least;
 pub mod rows;
 pub mod trace;
 
-// What is searched: the stretches that the constraints permit on the first n readings of a loss, compared by a tally.
+// What is searched: the stretches that the constraints permit on the first n readings of a loss, compared by a tally. The n is its own, since
+// a search may stop before the line does. Its answers are a `Result`, since the loss answers so; over what `usable` says it never refuses.
+// Readings are widened by `as`, which the check holds to lose nothing, and which adds no call to the proofs.
 #[derive(Drop)]
 pub struct Search<'a, L: Loss, T: Tally> {
     pub loss: &'a L,

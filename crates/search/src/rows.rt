@@ -3,7 +3,7 @@ ghost use Rattle.std.specs.Prelude.{◌≡◌, ℕ, ◌+◌, ◌*◌, ◌<◌, �
 ghost use Rattle.tally.specs.Order.{tallying};
 ghost use Rattle.constraints.specs.Ranges.{permitted};
 ghost use Rattle.search.specs.Starts.{any_number, exactly};
-ghost use Rattle.search.specs.Rows.{Picked, smaller, value_of, start_of, Row, NextRow, kept_start};
+ghost use Rattle.search.specs.Rows.{Picked, AllFit, smaller, value_of, start_of, Row, NextRow, kept_start};
 
 use crate::Search;
 use fault::Fault;
@@ -55,7 +55,7 @@ fn write_entry<T: Tally>(
 
 impl<L: Loss, T: Tally> Search<'_, L, T> {
     // Over the starts that can precede `end` and have an entry in the row at `base`: the least tally, and of equals the latest start.
-    // Apart: grown into a large caller, this loop took up to a quarter longer.
+    // Not inlined: as a part of a large caller, this loop took up to a quarter longer.
     #[inline(never)]
     pub fn best_start(
         &self,
@@ -66,7 +66,7 @@ impl<L: Loss, T: Tally> Search<'_, L, T> {
         requires within { end ≤ self.now.n }
         requires near { base ≤ 1000000 }
         requires room { T.stride * (base + end) ≤ length rows.now }
-        requires small { (a : ℕ) → a < end → IfSome (T.held rows.now (base + a)) (λ v. T.fits a v) }
+        requires small { AllFit T.fits (λ a. T.held rows.now (base + a)) end }
         ensures { MatchResult result
             (λ o. Picked (tallying T.zero T.added T.below self.now.tally.now (L.table self.now.loss.now).loss) (λ a. permitted self.now.constraints a end) (λ a. T.held rows.now (base + a)) end end o
             × IfSome o (λ p. T.fits end p.0))
@@ -90,7 +90,7 @@ impl<L: Loss, T: Tally> Search<'_, L, T> {
         requires trace { self.now.n < length trace.old }
         ensures { MatchResult result
             (λ _. Row (tallying T.zero T.added T.below self.now.tally.now (L.table self.now.loss.now).loss) (any_number (permitted self.now.constraints)) (λ _ t. slice_index trace.new t) tt (T.held rows.new) (self.now.n + 1)
-            × ((a : ℕ) → a < self.now.n + 1 → IfSome (T.held rows.new a) (λ v. T.fits a v)))
+            × AllFit T.fits (T.held rows.new) (self.now.n + 1))
             (λ e. ⊥) }
     {
         self.tally.put(rows, 0, Some(self.tally.nothing()));
@@ -101,7 +101,7 @@ impl<L: Loss, T: Tally> Search<'_, L, T> {
         Ok(())
     }
 
-    // The row of no stretch at all: an entry at 0, and no other.
+    // The row of no stretch at all: an entry at 0, and no other. By number: an entry takes the tally's stride, so a row is no slice of entries.
     pub(crate) fn first_row(&self, rows: &mut [u64])
         requires { T.stride * (self.now.n + 1) ≤ length rows.old }
         ensures first { T.held rows.new 0 ≡ Some T.zero }
@@ -126,7 +126,7 @@ impl<L: Loss, T: Tally> Search<'_, L, T> {
         requires apart { (src + self.now.n < dst) ⊎ (dst + self.now.n < src) }
         requires source { T.stride * (src + (self.now.n + 1)) ≤ length rows.old }
         requires target { T.stride * (dst + (self.now.n + 1)) ≤ length rows.old }
-        requires small { (a : ℕ) → a < self.now.n + 1 → IfSome (T.held rows.old (src + a)) (λ v. T.fits a v) }
+        requires small { AllFit T.fits (λ a. T.held rows.old (src + a)) (self.now.n + 1) }
         ensures { MatchResult result
             (λ _. NextRow (tallying T.zero T.added T.below self.now.tally.now (L.table self.now.loss.now).loss) (permitted self.now.constraints) T.fits (λ a. T.held rows.old (src + a)) (λ a. T.held rows.new (dst + a))
             (λ t a. place + t < length trace.old → slice_index trace.new (place + t) ≡ a) (self.now.n + 1)
@@ -154,7 +154,7 @@ impl<L: Loss, T: Tally> Search<'_, L, T> {
         requires trace { stretches * (self.now.n + 1) ≤ length trace.old }
         ensures { MatchResult result
             (λ base. (base ≤ self.now.n + 1) × Row (tallying T.zero T.added T.below self.now.tally.now (L.table self.now.loss.now).loss) (exactly (permitted self.now.constraints)) (kept_start trace.new (self.now.n + 1)) stretches (λ a. T.held rows.new (base + a)) (self.now.n + 1)
-            × ((a : ℕ) → a < self.now.n + 1 → IfSome (T.held rows.new (base + a)) (λ v. T.fits a v)))
+            × AllFit T.fits (λ a. T.held rows.new (base + a)) (self.now.n + 1))
             (λ e. ⊥) }
     {
         self.first_row(rows);

@@ -1,4 +1,4 @@
-// A session of frames over one line, for every kind of readings: each line of input is carried out or refused, and gets one reply.
+// A session of frames over one line, for every kind of readings, begun: what it holds, and its calls of the line. No frame is carried out yet.
 #![tactic(auto)]
 
 mod entries;

@@ -3,20 +3,16 @@ ghost use Rattle.std.specs.Prelude.{◌≡◌, [], Some, None};
 ghost use Rattle.fault.specs.Refusal.{RefusedFor};
 ghost use Rattle.marks.specs.Table.{marks_of};
 ghost use Rattle.runs.specs.State.{room, PastKept};
-ghost use Rattle.frames.specs.Asked.{asked};
 ghost use Rattle.kinds.specs.Sides.{no_readings};
-ghost use Rattle.session.specs.Held.{holding, call_cause, called, unless_refused, frame_cause, after_frame};
+ghost use Rattle.session.specs.Held.{holding, call_cause, called, unless_refused};
 
 use envelope::Step;
 use fault::Fault;
-use frames::frame::Frame;
 use kinds::model::FrameReadings;
-use line::Criterion;
 use list::List;
-use loss::model::Loss;
 use marks::table::MarkTable;
-use runs::model::{Call, Lent, Line};
-use runs::opened::{call_line, open_line};
+use runs::model::{Call, Line};
+use runs::opened::call_line;
 
 // The readings so far, and the line over them once it is open, with its marks.
 #[derive(Drop)]

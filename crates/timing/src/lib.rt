@@ -116,6 +116,7 @@ fn path_of<L: Loss>(loss: &L, times: u32) -> u64 {
     })
 }
 
+// One function for each loss and each job, since C has no generics.
 pub fn squares_by_penalty(readings: &[u8], penalty: u64, times: u32) -> u64 {
     by_penalty(&squares_of(readings), penalty, times)
 }

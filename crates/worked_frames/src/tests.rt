@@ -23,7 +23,7 @@ fn readings<'a>(
     }
 }
 
-// The line asks that.
+// Is this what the line asks?
 fn asks(rt: &impl Abort, line: &[u8], frame: Frame<'_>) {
     assert_eq!(rt;
         from_line(ReadingSize::Two, line, &mut [0; MOST_BYTES]),

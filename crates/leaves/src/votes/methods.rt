@@ -82,7 +82,7 @@ impl Loss for Votes {
         1
     }
 
-    // In place in a search's inner loop, which is twice as slow around a call.
+    // Inlined: a search's inner loop is twice as slow around a call.
     #[inline(always)]
     fn stretch(&self, a: u16, b: u16) -> Result<u64, Fault> {
         if !self.held.has_stretch(a, b) {

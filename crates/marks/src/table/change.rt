@@ -52,9 +52,7 @@ impl MarkTable {
     pub fn lay(self, n: u16, mark: Mark) -> Result<MarkTable, Fault>
         ensures { listed result ≡ unless (lay_refusal n mark (marks_of self)) (laid mark (marks_of self)) }
     {
-        if let Some(fault) = self.refusal(n, mark) {
-            return Err(fault);
-        }
+        self.check_lay(n, mark)?;
         let at = first_after(self.as_slice(), mark).unwrap_or(self.len);
         let mut marks = self.marks;
         insert(&mut marks, self.len, at, mark);

@@ -1,5 +1,6 @@
 // What a table is asked before a mark is laid or lifted.
 ghost use Rattle.std.specs.Prelude.{◌≡◌, ◌==◌, nat_lt, position};
+ghost use Rattle.fault.specs.Refusal.{RefusedFor};
 ghost use Rattle.marks.specs.Marks.{well_formed, shares_gap, shares_any, lay_refusal};
 ghost use Rattle.marks.specs.Table.{marks_of};
 
@@ -43,18 +44,19 @@ pub(crate) fn beginning_at(marks: &[Mark], first: u16) -> Option<usize>
 }
 
 impl MarkTable {
-    // Why the mark cannot be laid.
-    pub(crate) fn refusal(&self, n: u16, mark: Mark) -> Option<Fault>
-        ensures { result ≡ lay_refusal n mark (marks_of self.now) }
+    // Can the mark be laid?
+    pub(crate) fn check_lay(&self, n: u16, mark: Mark) -> Result<(), Fault>
+        ensures { RefusedFor (lay_refusal n mark (marks_of self.now)) result }
     {
         if !lies_on(n, mark) {
-            Some(Fault::BadMark)
-        } else if shares(self.as_slice(), mark) {
-            Some(Fault::SharedGap)
-        } else if self.len >= 64 {
-            Some(Fault::TooManyMarks)
-        } else {
-            None
+            return Err(Fault::BadMark);
         }
+        if shares(self.as_slice(), mark) {
+            return Err(Fault::SharedGap);
+        }
+        if self.len >= 64 {
+            return Err(Fault::TooManyMarks);
+        }
+        Ok(())
     }
 }

@@ -9,9 +9,9 @@ pub invariant_of-result : goal.invariant_of-result
 invariant_of-result c =
     let ms = marks_of c.args.self in
     let whole : length c.insert.new.marks ≡ 64 = omega arith in
-    let few : c.args.self.len + 1 ≤ 64 = omega (arith, (allowed c.args.n c.args.mark ms c.in_default.ensures).room, length_marks c.args.self) in
+    let few : c.args.self.len + 1 ≤ 64 = omega (arith, (allowed c.args.n c.args.mark ms (sym c.in_ok-check_lay.ensures)).room, length_marks c.args.self) in
     let e = laid_by c.args.mark ms _ _ _ _ c.as_slice.ensures (sym (length_marks c.args.self)) c.first_after.ensures c.unwrap_or-at.ensures in
-    record { whole = whole; few = few; rising = lay_keeps c.args.n c.args.mark ms _ _ c.args.self.rising c.in_default.ensures e c.insert.ensures }
+    record { whole = whole; few = few; rising = lay_keeps c.args.n c.args.mark ms _ _ c.args.self.rising (sym c.in_ok-check_lay.ensures) e c.insert.ensures }
 
 pub returns : goal.returns
 returns c =
