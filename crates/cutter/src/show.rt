@@ -124,7 +124,8 @@ fn show_boundaries(rt: &HostRuntime, gaps: &[u16]) -> io::Result<()> {
 }
 
 // Whether the division that was printed, of this total, is the winner, and else which one is. The winner has the least total, and the
-// boundaries `best`; there is none where no division is allowed.
+// boundaries `best`; there is none where no division is allowed. Not an `Option` of both: the check does not cover a list that is lent on one
+// arm alone.
 pub fn show_comparison(
     rt: &HostRuntime,
     printed: &[u16],

@@ -43,6 +43,7 @@ fn read_digits(digits: &[u8]) -> Option<ArrayVec<u8, MOST_BYTES>>
 
 // Reads a line, without its line end, into `bytes`, and says how many bytes it has. Refused with 11, where it is empty, has an odd
 // number of digits, another character or more than 130 of them; `bytes` is then as it was.
+// Into the caller's array, which the frame then borrows.
 pub fn read_line(line: &[u8], bytes: &mut [u8; MOST_BYTES]) -> Result<usize, Fault>
     ensures value { result ≡ how_many (line_bytes line.now) }
     ensures after { bytes.new ≡ laid_over (line_bytes line.now) bytes.old }
