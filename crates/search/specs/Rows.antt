@@ -15,6 +15,11 @@ Picked {V} m can row limit t (Some (v, a)) =
 abbrev pub AllFit : {V : Type 0} → (ℕ → V → Type 0) → (ℕ → Option V) → ℕ → Type 0
 AllFit fits row limit = (a : ℕ) → a < limit → IfSome (row a) (λ v. fits a v)
 
+-- the first entry of a row at a place from `first` up to, and without, `past`
+abbrev pub FirstEntry : {V : Type 0} → (ℕ → Option V) → ℕ → ℕ → Option (ℕ × V) → Type 0
+FirstEntry row first past None = (b : ℕ) → first ≤ b → b < past → row b ≡ None
+FirstEntry row first past (Some (a, v)) = (first ≤ a) × (a < past) × (row a ≡ Some v) × ((b : ℕ) → first ≤ b → b < a → row b ≡ None)
+
 -- the smaller of the best so far and (v, a), which is later
 abbrev pub smaller : {V : Type 0} → (V → V → Bool) → Option (V × ℕ) → V → ℕ → Option (V × ℕ)
 smaller below None v a = Some (v, a)

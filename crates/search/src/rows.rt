@@ -3,26 +3,31 @@ ghost use Rattle.std.specs.Prelude.{◌≡◌, ℕ, ◌+◌, ◌*◌, ◌<◌, �
 ghost use Rattle.tally.specs.Order.{tallying};
 ghost use Rattle.constraints.specs.Ranges.{permitted};
 ghost use Rattle.search.specs.Starts.{any_number, exactly};
-ghost use Rattle.search.specs.Rows.{Picked, AllFit, smaller, value_of, start_of, Row, NextRow, kept_start};
+ghost use Rattle.search.specs.Rows.{Picked, AllFit, FirstEntry, value_of, start_of, Row, NextRow, kept_start};
 
 use crate::Search;
+use constraints::StartRange;
 use fault::Fault;
 use loss::model::Loss;
 use tally::model::Tally;
 
-// The smaller of the best so far and the later (v, start), which wins a tie.
-fn pick<T: Tally>(
+// The first start of the range that has an entry in the row at `base`, and the entry.
+fn first_entry<T: Tally>(
     tally: &T,
-    best: Option<(T::Value, u16)>,
-    v: T::Value,
-    start: u16,
-) -> Option<(T::Value, u16)>
-    ensures { result ≡ smaller T.below best v start }
+    rows: &[u64],
+    base: usize,
+    range: StartRange,
+) -> Option<(u16, T::Value)>
+    requires near { (base ≤ 1000000) × (range.past ≤ 512) }
+    requires room { T.stride * (base + range.past) ≤ length rows.now }
+    ensures { FirstEntry (λ a. T.held rows.now (base + a)) range.first range.past result }
 {
-    match best {
-        Some((w, earlier)) if tally.less(w, v) => Some((w, earlier)),
-        _ => Some((v, start)),
+    for start in range.first..range.past {
+        if let Some(v) = tally.load(rows, base + start as usize) {
+            return Some((start, v));
+        }
     }
+    None
 }
 
 // Keeps a start in the trace at j; a trace that does not reach so far stays as it is.
@@ -74,14 +79,24 @@ impl<L: Loss, T: Tally> Search<'_, L, T> {
     {
         let (loss, tally) = (self.loss, self.tally);
         let range = self.constraints.starts_before(end);
-        let mut best = None;
-        for start in range.first..range.past {
+        let Some(first) = first_entry(tally, rows, base, range) else {
+            return Ok(None);
+        };
+        let lost = loss.stretch(first.0, end)?;
+        // The tally and its start are plain numbers from here on: in an `Option` of a pair, LLVM moves its empty bytes too, in every turn.
+        let mut best = tally.add(first.1, first.0, lost);
+        let mut latest = first.0;
+        for start in first.0 + 1..range.past {
             if let Some(before) = tally.load(rows, base + start as usize) {
                 let lost = loss.stretch(start, end)?;
-                best = pick(tally, best, tally.add(before, start, lost), start);
+                let v = tally.add(before, start, lost);
+                if !tally.less(best, v) {
+                    best = v;
+                    latest = start;
+                }
             }
         }
-        Ok(best)
+        Ok(Some((best, latest)))
     }
 
     // Every entry of the row 0..=n, each from those before it; the trace keeps the last start of each.

@@ -73,8 +73,10 @@ fn nearest_level(s: u64, n: u64) -> u64
     ensures value { result ≡ nearest s n }
     ensures small { result ≤ 65536 }
 {
+    // Both fit in 32 bits, which are divided faster.
+    let (s, n) = (s as u32, n as u32);
     let mean = s / n;
-    if s % n + s % n <= n { mean } else { mean + 1 }
+    u64::from(if s % n + s % n <= n { mean } else { mean + 1 })
 }
 
 impl Loss for Squares {
